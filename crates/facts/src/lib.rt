@@ -1,0 +1,12 @@
+// The worked cases that are proved as facts of the definitions.
+ghost use mathlib.Core.Path.{_≡_};
+ghost use lib.ListN.{length};
+ghost use Rattle.facts.specs.Cases.{cases, All-hold};
+
+// How many cases the list has; each of them holds.
+pub fn proved_cases() -> usize
+    ensures count { λ r. ⌜ r ≡ length cases ⌝ }
+    ensures hold { λ _. ⌜ All-hold cases ⌝ }
+{
+    7
+}

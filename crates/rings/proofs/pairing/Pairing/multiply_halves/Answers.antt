@@ -1,0 +1,14 @@
+use borrow.Author.Needs.{needs}
+use lib.Bits.{xor-lt}
+use Rattle.rings.proofs.PairCode.{code-below}
+use Rattle.rings.proofs.pairing.Pairing.multiply_halves.Needs as need
+
+pub join-requires : need.join-requires
+join-requires g c κs =
+    let laws = g .R·Ring·met .laws (c .args .self .now .below) in
+    let e = c .bit-width-w .ensures in
+    record {
+      narrow = search needs;
+      high = xor-lt _ _ _ (xor-lt _ _ _ (code-below _ _ laws e (c .product-top .ensures)) (code-below _ _ laws e (c .product-left .ensures))) (code-below _ _ laws e (c .product-right .ensures));
+      low = xor-lt _ _ _ (code-below _ _ laws e (c .product-bottom .ensures)) (code-below _ _ laws e (c .product-carry .ensures));
+    }
