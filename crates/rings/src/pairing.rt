@@ -2,7 +2,7 @@
 ghost use mathlib.Core.Path.{_≡_};
 ghost use Prim.Native.Nat.{ℕ, _+_, _*_, _/_, _%_, _^_, _<_, _≤_};
 ghost use Rattle.rings.specs.Laws.{Inverts};
-ghost use Rattle.rings.specs.Pairing.{lows, schoolbook, form, by-norm, pair-mul, norm as norm-of, pairing-bits, pairing-mul, Normed};
+ghost use Rattle.rings.specs.Pairing.{lows, schoolbook, form, by-norm, norm as norm-of, pairing-bits, pairing-mul, Normed};
 use crate::Ring;
 
 #[derive(Drop)]
@@ -21,6 +21,129 @@ fn join(w: u32, high: u8, low: u8) -> u8
     (high << w) | low
 }
 
+// The norm in the pairing over a ring that is lent: a code of that ring, which has an inverse there just if `a` has one in the
+// pairing.
+pub fn norm_over<R: Ring>(ring: &R, constant: u8, a: u8) -> u8
+    ensures { λ r. ⌜ Normed (R·Ring .bits) 1 (R·Ring .mul (now (ring .entry))) constant (a % 2 ^ pairing-bits (R·Ring .bits)) r ⌝ }
+{
+    if R::bit_width() < 8 {
+        pair_norm(ring, constant, a)
+    } else {
+        own_norm(ring, constant, a)
+    }
+}
+
+// The product in the pairing over a ring that is lent.
+pub fn product_over<R: Ring>(ring: &R, constant: u8, a: u8, b: u8) -> u8
+    ensures { λ r. ⌜ r ≡ pairing-mul (R·Ring .bits) (R·Ring .mul (now (ring .entry))) constant (a % 2 ^ pairing-bits (R·Ring .bits)) (b % 2 ^ pairing-bits (R·Ring .bits)) ⌝ }
+{
+    if R::bit_width() < 8 {
+        pair_product(ring, constant, a, b)
+    } else {
+        own_product(ring, constant, a, b)
+    }
+}
+
+// The inverse in the pairing over a ring that is lent.
+pub fn inverse_over<R: Ring>(ring: &R, constant: u8, a: u8) -> Option<u8>
+    ensures { λ r. ⌜ Inverts (pairing-bits (R·Ring .bits)) 1 (pairing-mul (R·Ring .bits) (R·Ring .mul (now (ring .entry))) constant) (a % 2 ^ pairing-bits (R·Ring .bits)) r ⌝ }
+{
+    if R::bit_width() < 8 {
+        pair_inverse(ring, constant, a)
+    } else {
+        own_inverse(ring, constant, a)
+    }
+}
+
+// Over width 8 a code is its own norm, and the product and the inverse are those of the ring below.
+fn own_norm<R: Ring>(ring: &R, constant: u8, a: u8) -> u8
+    requires { ⌜ 8 ≤ R·Ring .bits ⌝ }
+    ensures { λ r. ⌜ Normed (R·Ring .bits) 1 (R·Ring .mul (now (ring .entry))) constant (a % 2 ^ pairing-bits (R·Ring .bits)) r ⌝ }
+{
+    a
+}
+
+fn own_product<R: Ring>(ring: &R, constant: u8, a: u8, b: u8) -> u8
+    requires { ⌜ 8 ≤ R·Ring .bits ⌝ }
+    ensures { λ r. ⌜ r ≡ pairing-mul (R·Ring .bits) (R·Ring .mul (now (ring .entry))) constant (a % 2 ^ pairing-bits (R·Ring .bits)) (b % 2 ^ pairing-bits (R·Ring .bits)) ⌝ }
+{
+    ring.product(a, b)
+}
+
+fn own_inverse<R: Ring>(ring: &R, constant: u8, a: u8) -> Option<u8>
+    requires { ⌜ 8 ≤ R·Ring .bits ⌝ }
+    ensures { λ r. ⌜ Inverts (pairing-bits (R·Ring .bits)) 1 (pairing-mul (R·Ring .bits) (R·Ring .mul (now (ring .entry))) constant) (a % 2 ^ pairing-bits (R·Ring .bits)) r ⌝ }
+{
+    ring.inverse(a)
+}
+
+// The norm, the product and the inverse where the ring below has width 2 or 4. The ring below reads only the low bits.
+fn pair_norm<R: Ring>(ring: &R, constant: u8, a: u8) -> u8
+    requires { ⌜ R·Ring .bits < 8 ⌝ }
+    ensures halves { λ r. ⌜ r ≡ norm-of (R·Ring .bits) (R·Ring .mul (now (ring .entry))) constant (a % 2 ^ (R·Ring .bits + R·Ring .bits)) ⌝ }
+    ensures normed { λ r. ⌜ Normed (R·Ring .bits) 1 (R·Ring .mul (now (ring .entry))) constant (a % 2 ^ pairing-bits (R·Ring .bits)) r ⌝ }
+{
+    norm_form(ring, constant, a)
+}
+
+fn pair_product<R: Ring>(ring: &R, constant: u8, a: u8, b: u8) -> u8
+    requires { ⌜ R·Ring .bits < 8 ⌝ }
+    ensures { λ r. ⌜ r ≡ pairing-mul (R·Ring .bits) (R·Ring .mul (now (ring .entry))) constant (a % 2 ^ pairing-bits (R·Ring .bits)) (b % 2 ^ pairing-bits (R·Ring .bits)) ⌝ }
+{
+    multiply_halves(ring, constant, a, b)
+}
+
+fn pair_inverse<R: Ring>(ring: &R, constant: u8, a: u8) -> Option<u8>
+    requires { ⌜ R·Ring .bits < 8 ⌝ }
+    ensures { λ r. ⌜ Inverts (pairing-bits (R·Ring .bits)) 1 (pairing-mul (R·Ring .bits) (R·Ring .mul (now (ring .entry))) constant) (a % 2 ^ pairing-bits (R·Ring .bits)) r ⌝ }
+{
+    match ring.inverse(pair_norm(ring, constant, a)) {
+        Some(m) => Some(divide_halves(ring, a, m)),
+        None => None,
+    }
+}
+
+// The quadratic form of the halves that is the norm.
+fn norm_form<R: Ring>(ring: &R, constant: u8, a: u8) -> u8
+    requires { ⌜ R·Ring .bits < 8 ⌝ }
+    ensures { λ r. ⌜ r ≡ form (lows (R·Ring .bits) (R·Ring .mul (now (ring .entry)))) constant (a / 2 ^ R·Ring .bits) a ⌝ }
+{
+    let a1 = a >> R::bit_width();
+    let low_square = ring.product(a, a);
+    let cross = ring.product(a, a1);
+    let high_square = ring.product(a1, a1);
+    let carry = ring.product(constant, high_square);
+    low_square ^ cross ^ carry
+}
+
+// The product by the halves.
+fn multiply_halves<R: Ring>(ring: &R, constant: u8, a: u8, b: u8) -> u8
+    requires { ⌜ R·Ring .bits < 8 ⌝ }
+    ensures { λ r. ⌜ r ≡ schoolbook (R·Ring .bits) (lows (R·Ring .bits) (R·Ring .mul (now (ring .entry)))) constant (a / 2 ^ R·Ring .bits) a (b / 2 ^ R·Ring .bits) b ⌝ }
+{
+    let w = R::bit_width();
+    let a1 = a >> w;
+    let b1 = b >> w;
+    let top = ring.product(a1, b1);
+    let left = ring.product(a1, b);
+    let right = ring.product(a, b1);
+    let bottom = ring.product(a, b);
+    let carry = ring.product(constant, top);
+    join(w, top ^ left ^ right, bottom ^ carry)
+}
+
+// The halves of the inverse, where m is the norm's inverse: r1 m, and (r0 + r1) m.
+fn divide_halves<R: Ring>(ring: &R, a: u8, m: u8) -> u8
+    requires { ⌜ R·Ring .bits < 8 ⌝ }
+    ensures { λ r. ⌜ r ≡ by-norm (R·Ring .bits) (lows (R·Ring .bits) (R·Ring .mul (now (ring .entry)))) (a / 2 ^ R·Ring .bits) a m ⌝ }
+{
+    let w = R::bit_width();
+    let a1 = a >> w;
+    let high = ring.product(a1, m);
+    let low = ring.product(a ^ a1, m);
+    join(w, high, low)
+}
+
 impl<R: Ring> Pairing<R> {
     // The pairing over `below` with a constant, of which the low bits count, as many as the width below.
     pub fn new(below: R, constant: u8) -> Pairing<R>
@@ -34,86 +157,7 @@ impl<R: Ring> Pairing<R> {
     pub fn norm(&self, a: u8) -> u8
         ensures { λ r. ⌜ Normed (R·Ring .bits) 1 (R·Ring .mul (now (self .entry) .below)) (now (self .entry) .constant) (a % 2 ^ pairing-bits (R·Ring .bits)) r ⌝ }
     {
-        if R::bit_width() < 8 {
-            self.pair_norm(a)
-        } else {
-            self.own_norm(a)
-        }
-    }
-
-    // Over width 8 a code is its own norm.
-    fn own_norm(&self, a: u8) -> u8
-        requires { ⌜ 8 ≤ R·Ring .bits ⌝ }
-        ensures { λ r. ⌜ Normed (R·Ring .bits) 1 (R·Ring .mul (now (self .entry) .below)) (now (self .entry) .constant) (a % 2 ^ pairing-bits (R·Ring .bits)) r ⌝ }
-    {
-        a
-    }
-
-    // The norm, the product and the inverse where the ring below has width 2 or 4. The ring below reads only the low bits.
-    fn pair_norm(&self, a: u8) -> u8
-        requires { ⌜ R·Ring .bits < 8 ⌝ }
-        ensures halves { λ r. ⌜ r ≡ norm-of (R·Ring .bits) (R·Ring .mul (now (self .entry) .below)) (now (self .entry) .constant) (a % 2 ^ (R·Ring .bits + R·Ring .bits)) ⌝ }
-        ensures normed { λ r. ⌜ Normed (R·Ring .bits) 1 (R·Ring .mul (now (self .entry) .below)) (now (self .entry) .constant) (a % 2 ^ pairing-bits (R·Ring .bits)) r ⌝ }
-    {
-        self.norm_form(a)
-    }
-
-    fn pair_product(&self, a: u8, b: u8) -> u8
-        requires { ⌜ R·Ring .bits ≤ 4 ⌝ }
-        ensures { λ r. ⌜ r ≡ pair-mul (R·Ring .bits) (R·Ring .mul (now (self .entry) .below)) (now (self .entry) .constant) (a % 2 ^ (R·Ring .bits + R·Ring .bits)) (b % 2 ^ (R·Ring .bits + R·Ring .bits)) ⌝ }
-    {
-        self.multiply_halves(a, b)
-    }
-
-    fn pair_inverse(&self, a: u8) -> Option<u8>
-        requires { ⌜ R·Ring .bits ≤ 4 ⌝ }
-        ensures { λ r. ⌜ Inverts (R·Ring .bits + R·Ring .bits) 1 (pair-mul (R·Ring .bits) (R·Ring .mul (now (self .entry) .below)) (now (self .entry) .constant)) (a % 2 ^ (R·Ring .bits + R·Ring .bits)) r ⌝ }
-    {
-        match self.below.inverse(self.pair_norm(a)) {
-            Some(m) => Some(self.divide_halves(a, m)),
-            None => None,
-        }
-    }
-
-    // The quadratic form of the halves that is the norm.
-    fn norm_form(&self, a: u8) -> u8
-        requires { ⌜ R·Ring .bits < 8 ⌝ }
-        ensures { λ r. ⌜ r ≡ form (lows (R·Ring .bits) (R·Ring .mul (now (self .entry) .below))) (now (self .entry) .constant) (a / 2 ^ R·Ring .bits) a ⌝ }
-    {
-        let a1 = a >> R::bit_width();
-        let low_square = self.below.product(a, a);
-        let cross = self.below.product(a, a1);
-        let high_square = self.below.product(a1, a1);
-        let carry = self.below.product(self.constant, high_square);
-        low_square ^ cross ^ carry
-    }
-
-    // The product by the halves.
-    fn multiply_halves(&self, a: u8, b: u8) -> u8
-        requires { ⌜ R·Ring .bits ≤ 4 ⌝ }
-        ensures { λ r. ⌜ r ≡ schoolbook (R·Ring .bits) (lows (R·Ring .bits) (R·Ring .mul (now (self .entry) .below))) (now (self .entry) .constant) (a / 2 ^ R·Ring .bits) a (b / 2 ^ R·Ring .bits) b ⌝ }
-    {
-        let w = R::bit_width();
-        let a1 = a >> w;
-        let b1 = b >> w;
-        let top = self.below.product(a1, b1);
-        let left = self.below.product(a1, b);
-        let right = self.below.product(a, b1);
-        let bottom = self.below.product(a, b);
-        let carry = self.below.product(self.constant, top);
-        join(w, top ^ left ^ right, bottom ^ carry)
-    }
-
-    // The halves of the inverse, where m is the norm's inverse: r1 m, and (r0 + r1) m.
-    fn divide_halves(&self, a: u8, m: u8) -> u8
-        requires { ⌜ R·Ring .bits ≤ 4 ⌝ }
-        ensures { λ r. ⌜ r ≡ by-norm (R·Ring .bits) (lows (R·Ring .bits) (R·Ring .mul (now (self .entry) .below))) (a / 2 ^ R·Ring .bits) a m ⌝ }
-    {
-        let w = R::bit_width();
-        let a1 = a >> w;
-        let high = self.below.product(a1, m);
-        let low = self.below.product(a ^ a1, m);
-        join(w, high, low)
+        norm_over(&self.below, self.constant, a)
     }
 }
 
@@ -130,18 +174,10 @@ pub impl<R: Ring> Ring for Pairing<R> as PairingRing {
     }
 
     fn product(&self, a: u8, b: u8) -> u8 {
-        if R::bit_width() < 8 {
-            self.pair_product(a, b)
-        } else {
-            self.below.product(a, b)
-        }
+        product_over(&self.below, self.constant, a, b)
     }
 
     fn inverse(&self, a: u8) -> Option<u8> {
-        if R::bit_width() < 8 {
-            self.pair_inverse(a)
-        } else {
-            self.below.inverse(a)
-        }
+        inverse_over(&self.below, self.constant, a)
     }
 }

@@ -5,14 +5,13 @@ use native.Mathlib.Nat.{mod-eq-of-lt, lt-of-lt-of-le}
 use native.Mathlib.Omega.{arith}
 use lib.Pow.{pow-mono}
 use Rattle.rings.proofs.PairCode.{norm-same, normed}
-use Rattle.rings.proofs.pairing.Pairing.own_norm.Needs as need
+use Rattle.rings.proofs.pairing.own_norm.Needs as need
 
 pub returns : need.returns
 returns g c =
-    let self = c .args .self .now in
     let w = g .R·Ring .bits in
-    let mul = g .R·Ring .mul (self .below) in
+    let mul = g .R·Ring .mul (c .args .ring .now) in
     let narrow = g .R·Ring·met .narrow in
     let byte : c .args .a < 256 = omega arith in
-    normed w mul (self .constant) narrow (c .args .a) 1 _ (g .R·Ring·met .laws (self .below)) (inr (c .pre))
-    (sym (mod-eq-of-lt (lt-of-lt-of-le byte (pow-mono (c .pre)))) ∙ norm-same w mul (self .constant) narrow (c .args .a) (c .pre))
+    normed w mul (c .args .constant) narrow (c .args .a) 1 _ (g .R·Ring·met .laws (c .args .ring .now)) (inr (c .pre))
+    (sym (mod-eq-of-lt (lt-of-lt-of-le byte (pow-mono (c .pre)))) ∙ norm-same w mul (c .args .constant) narrow (c .args .a) (c .pre))

@@ -1,0 +1,2 @@
+pub mod Octics
+pub mod Division
