@@ -27,7 +27,8 @@ act-low X (suc k) p v = ap₂ (λ (x y : ℕ). bitXor (pick x v) (X y)) low (ap 
     high : p % 2 ^ suc k / 2 ≡ p / 2 % 2 ^ k
     high = ap (λ (x : ℕ). p % 2 ^ x / 2) (sym (add-one k)) ∙ field p k 1
 
-abbrev below : (ℕ → Bool) → ℕ → Bool
+-- the test passes at each number below n
+abbrev pub below : (ℕ → Bool) → ℕ → Bool
 below p zero = true
 below p (suc n) = p n && below p n
 
@@ -67,7 +68,7 @@ and-right : (a b : Bool) → (a && b) ≡ true → b ≡ true
 and-right true b t = t
 and-right false b t = cc
 
-below-at : (p : ℕ → Bool) (n : ℕ) → below p n ≡ true → (k : ℕ) → k < n → p k ≡ true
+pub below-at : (p : ℕ → Bool) (n : ℕ) → below p n ≡ true → (k : ℕ) → k < n → p k ≡ true
 below-at p zero t k h = absurd (omega arith)
 below-at p (suc n) t k h =
     ⊎-elim (λ e. ap p e ∙ and-left (p n) (below p n) t) (⊎-elim (λ l. below-at p n (and-right (p n) (below p n) t) k l) (λ l. absurd (omega arith))) (cases-order k n)

@@ -1,34 +1,25 @@
--- The way of a byte through the tower over ring 13 with the constant 12, by the published columns for 11B. Assumes nothing.
+-- The way of a byte through the tower over ring 13, by a pair. Assumes nothing.
 use mathlib.Core.Path.{_≡_}
-use mathlib.Core.List.{List, [], _∷_}
-use Prim.Native.Nat.{ℕ, _*_, _/_, _%_, _<_}
-use lib.Bits.{bitXor}
-use Rattle.std.specs.Options.{valueOr}
+use Prim.Native.Nat.{ℕ, _%_, _^_}
 use Rattle.rings.specs.Laws.{Inverts}
-use Rattle.rings.specs.Pairing.{norm as norm-of, pair-mul}
+use Rattle.rings.specs.Pairing.{Normed}
 use Rattle.rings.specs.Poly.{mul-mod}
-use Rattle.boxes.specs.Boxes.{affine-a}
+use Rattle.boxes.specs.Boxes.{affine-a, box-a}
+use Rattle.towers.specs.Boxed.{Boxed}
+use Rattle.towers.specs.Trails.{Trails, Arrives}
+use Rattle.towers.specs.declared.pair.Pair.{Pair}
 use Rattle.trail.specs.declared.steps.Steps.{Steps}
 
--- column j of M: a byte whose bit i is the entry in row i
-abbrev pub columns : List ℕ
-columns = 0x01 ∷ 0xe0 ∷ 0x5d ∷ 0xb0 ∷ 0x42 ∷ 0xe5 ∷ 0x10 ∷ 0x82 ∷ []
+-- the product of ring 13
+abbrev pub mul-13 : ℕ → ℕ → ℕ
+mul-13 = mul-mod 4 0x13
 
--- a matrix times a byte: the sum of the columns that the bits of v mark
-unfoldable pub apply : List ℕ → ℕ → ℕ
-apply [] v = 0
-apply (c ∷ cs) v = bitXor (c * (v % 2)) (apply cs (v / 2))
-
--- c is the code that M takes to the byte, if it takes any to it
-abbrev pub Code : ℕ → ℕ → Type 0
-Code byte c = (v : ℕ) → v < 256 → apply columns v ≡ byte → apply columns c ≡ byte
-
--- each step from the one before
-pub record Way (byte : ℕ) (s : Steps) : Type 0 where
+-- The byte's trail by the pair, its code's norm with the norm's inverse, and box A's byte. Where the pair is kept for an accepted
+-- octic, the last byte of the trail is the byte's inverse in the octic's field; where it is lawful for 11B, the box is box A.
+pub record Way (p : Pair) (byte : ℕ) (s : Steps) : Type 0 where
   pub start : s .byte ≡ byte
-  pub code : Code byte (s .code)
-  pub norm : s .norm ≡ norm-of 4 (mul-mod 4 0x13) 12 (s .code)
-  pub inverse-below : Inverts 4 1 (mul-mod 4 0x13) (s .norm) (s .«norm_inverse»)
-  pub inverse : Inverts 8 1 (pair-mul 4 (mul-mod 4 0x13) 12) (s .code) (s .inverse)
-  pub back : s .back ≡ apply columns (valueOr (s .inverse) 0)
-  pub boxed : s .boxed ≡ affine-a (s .back)
+  pub walks : Trails 4 mul-13 p byte (s .trail)
+  pub arrives : Arrives 4 mul-13 p byte (s .trail .byte)
+  pub norm : Normed 4 1 mul-13 (p .constant) (s .trail .code % 2 ^ 8) (s .norm)
+  pub inverse-below : Inverts 4 1 mul-13 (s .norm % 2 ^ 4) (s .«norm_inverse»)
+  pub boxed : Boxed 0x11b (λ y. y) affine-a box-a 4 mul-13 p byte (s .boxed)

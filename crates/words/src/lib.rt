@@ -7,6 +7,7 @@ ghost use Rattle.words.specs.Words.{Blank, Blanks, NoBlanks, Next};
 ghost use Rattle.words.specs.Hex.{hex-value, hex-byte};
 
 pub mod reader;
+pub mod shown;
 
 use reader::Reader;
 

@@ -1,0 +1,10 @@
+pub mod Tests
+pub mod Lawful
+pub mod Matrices
+pub mod Order
+pub mod Keeps
+pub mod Fitted
+pub mod Place
+pub mod Search
+pub mod Trails
+pub mod Boxed
