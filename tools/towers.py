@@ -99,14 +99,19 @@ def affine_s(b):
 def inverse(octic, b):
     return octic[b].index(1) if b else 0
 
-RINGS = {'13': poly_ring(0x13), '19': poly_ring(0x19), '1F': poly_ring(0x1f), '4:2': pairing(poly_ring(7), 2), '4:3': pairing(poly_ring(7), 3)}
+def exchanged(table):
+    """the same field with bits 1 and 3 of each code exchanged"""
+    turn = lambda a: a & 5 | (a >> 1 & 1) << 3 | (a >> 3 & 1) << 1
+    return [[turn(table[turn(a)][turn(b)]) for b in range(16)] for a in range(16)]
+
+RINGS = {'test': exchanged(poly_ring(0x13)), '13': poly_ring(0x13), '19': poly_ring(0x19), '1F': poly_ring(0x1f), '4:2': pairing(poly_ring(7), 2), '4:3': pairing(poly_ring(7), 3)}
 
 def columns(cols):
     return ' '.join('%02X' % x for x in cols)
 
 def print_fits(names):
     good = accepted()
-    fits = {o: fit(RINGS[names[0]] if names[0] in RINGS else None, o) for o in good}
+    fits = {o: fit(RINGS[names[0]], o) for o in good}
     for name in names:
         for o in good:
             ones, c, cols, back = fits[o]
@@ -130,8 +135,9 @@ if __name__ == '__main__':
     print_fits(['19'])
     print_fits(['1F'])
     print_fits(['4:2'])
+    print_fits(['test'])
     for name in ('4:0', '4:1', '4', '11B', '4:2:8'):
         print('%s refused: 1 65536, 2 0, 3 0' % name)
-    for name in ('13', '4:2'):
+    for name in ('13', '4:2', 'test'):
         print_trails(name, 0x11B, lambda b: b, affine_a)
         print_trails(name, 0x1F5, affine_s, affine_s)

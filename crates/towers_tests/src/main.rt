@@ -12,6 +12,8 @@ use rings::poly::QuarticRing;
 use rings::powers::Powers13;
 use rings::powers::Powers13Ring;
 use std::io;
+use test_ring::Exchanged;
+use test_ring::ExchangedRing;
 use towers::boxed::box_a;
 use towers::boxed::box_s;
 use towers::fit;
@@ -96,6 +98,7 @@ fn main(rt: LibcRuntime) -> io::Result<()> {
     print_fits(&rt, "19", &Quartic::Ring19)?;
     print_fits(&rt, "1F", &Quartic::Ring1F)?;
     print_fits(&rt, "4:2", &Pairing::new(Four, 2))?;
+    print_fits(&rt, "test", &Exchanged)?;
     print_fits(&rt, "4:0", &Pairing::new(Four, 0))?;
     print_fits(&rt, "4:1", &Pairing::new(Four, 1))?;
     print_fits(&rt, "4", &Four)?;
@@ -104,5 +107,7 @@ fn main(rt: LibcRuntime) -> io::Result<()> {
     print_trails(&rt, "13", &Quartic::Ring13, 0x11b)?;
     print_trails(&rt, "13", &Quartic::Ring13, 0x1f5)?;
     print_trails(&rt, "4:2", &Pairing::new(Four, 2), 0x11b)?;
-    print_trails(&rt, "4:2", &Pairing::new(Four, 2), 0x1f5)
+    print_trails(&rt, "4:2", &Pairing::new(Four, 2), 0x1f5)?;
+    print_trails(&rt, "test", &Exchanged, 0x11b)?;
+    print_trails(&rt, "test", &Exchanged, 0x1f5)
 }

@@ -1,0 +1,2 @@
+mod Recoded
+mod Exchanging
