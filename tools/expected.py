@@ -1,4 +1,5 @@
-# Expected values of the cipher tests and of the sealer, by another implementation of AES and SM4 (Python's cryptography).
+#!/usr/bin/env python3
+"""Expected values of the cipher tests (`tests`) and of the sealer (`sealer`), by another implementation of AES and SM4, Python's cryptography."""
 import sys
 from cryptography.hazmat.primitives.ciphers import Cipher, algorithms, modes
 
@@ -68,7 +69,8 @@ def sealer(text):
             print(f"{b.hex().upper()} {p.hex().upper()}")
         print(f"sealed {out.hex().upper()}")
 
-if sys.argv[1] == "tests":
-    tests()
-elif sys.argv[1] == "sealer":
-    sealer(sys.stdin.read())
+if __name__ == "__main__":
+    if sys.argv[1] == "tests":
+        tests()
+    elif sys.argv[1] == "sealer":
+        sealer(sys.stdin.read())

@@ -39,7 +39,7 @@ pub record Lawful-13 (o : ℕ) (p : Pair) (m n : ℕ) : Type 0 where
   pub reverse-ones : entries (p .reverse) ≡ n
   pub both-ones : p .ones ≡ m + n
 
--- the published pair of the octic 11B
+-- the pair for the octic 11B
 abbrev pub pair-11b : Pair
 pair-11b = record {
   constant = 12;
@@ -48,7 +48,7 @@ pair-11b = record {
   reverse = 0x01 ∷ 0x5a ∷ 0x23 ∷ 0x2c ∷ 0x40 ∷ 0x92 ∷ 0x4a ∷ 0xda ∷ [];
 }
 
--- the published pair of the octic 1F5
+-- the pair for the octic 1F5
 abbrev pub pair-1f5 : Pair
 pair-1f5 = record {
   constant = 15;

@@ -16,6 +16,16 @@ fn exchange_bits(a: u8) -> u8
     CODES[a as usize]
 }
 
+// The product of two codes below 16.
+fn by_ring_13(a: u8, b: u8) -> u8
+    requires left { ⌜ a < 16 ⌝ }
+    requires right { ⌜ b < 16 ⌝ }
+    ensures { λ r. ⌜ r ≡ exchanged-mul a b ⌝ }
+{
+    let in_13 = Powers13.product(exchange_bits(a), exchange_bits(b));
+    exchange_bits(in_13)
+}
+
 // Code 2 stands for the cube of Z, code 4 for its square and code 8 for Z, where Z is code 2 of ring 13.
 #[derive(Clone, Copy)]
 pub struct Exchanged;
@@ -32,7 +42,6 @@ pub impl Ring for Exchanged as ExchangedRing {
     }
 
     fn product(&self, a: u8, b: u8) -> u8 {
-        let in_13 = Powers13.product(exchange_bits(a % 16), exchange_bits(b % 16));
-        exchange_bits(in_13)
+        by_ring_13(a % 16, b % 16)
     }
 }

@@ -1,6 +1,6 @@
 use mathlib.Core.Path.{_∙_}
 use Rattle.test_ring.proofs.Exchanging.{product-lt, exchanged-product}
-use Rattle.test_ring.proofs.ExchangedRing.product.Needs as need
+use Rattle.test_ring.proofs.by_ring_13.Needs as need
 
 pub exchange-bits-requires-3 : need.exchange-bits-requires-3
 exchange-bits-requires-3 c κs =

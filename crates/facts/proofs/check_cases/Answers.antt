@@ -2,6 +2,7 @@ use mathlib.Core.Path.{_≡_, refl}
 use mathlib.Core.Logic.{inl, inr}
 use lib.Count.{ones}
 use lib.Dec.{lit<, lit≤}
+use lib.ListN.{drop}
 use Rattle.rings.specs.Pairing.{pair-mul}
 use Rattle.rings.specs.Poly.{mul-mod}
 use Rattle.rings.proofs.PolyLaws.{mul-mod-laws}
@@ -12,8 +13,8 @@ use Rattle.octics.proofs.Accepts.{accepts}
 use Rattle.boxes.specs.Boxes.{inverse-mod, linear-a, linear-s, box-a, box-s}
 use Rattle.towers.specs.Matrices.{apply}
 use Rattle.towers.proofs.Known.{Stated, told}
-use Rattle.facts.specs.Cases.{Refused, Lawful-13, pair-11b, pair-1f5}
-use Rattle.facts.proofs.proved_cases.Needs as need
+use Rattle.facts.specs.Cases.{Refused, Lawful-13, pair-11b, pair-1f5, cases, All-hold}
+use Rattle.facts.proofs.check_cases.Needs as need
 
 accepted-11b : Accepted 0x11b
 unfolding remainder
@@ -91,63 +92,15 @@ lawful-1f5 = record {
   both-ones = refl;
 }
 
+pairs-hold : All-hold (drop 16 cases)
+pairs-hold = (lawful-11b, (lawful-1f5, tt))
+
+boxes-hold : All-hold (drop 12 cases)
+boxes-hold = (boxes-a .0, (boxes-a .1, (boxes-s .0, (boxes-s .1, pairs-hold))))
+
+octics-hold : All-hold (drop 7 cases)
+octics-hold = (accepted-11b, (accepted-1f5, (refused-0ff, (refused-200, (refused-100, boxes-hold)))))
+
 pub returns : need.returns
 unfolding mul-mod
-returns c = record {
-  count = refl;
-  hold = (
-    (refl, refl),
-    (
-      (refl, refl),
-      (
-        (refl, refl),
-        (
-          (refl, refl),
-          (
-            (refl, refl),
-            (
-              (refl, refl),
-              (
-                (refl, refl),
-                (
-                  accepted-11b,
-                  (
-                    accepted-1f5,
-                    (
-                      refused-0ff,
-                      (
-                        refused-200,
-                        (
-                          refused-100,
-                          (
-                            boxes-a .0,
-                            (
-                              boxes-a .1,
-                              (
-                                boxes-s .0,
-                                (
-                                  boxes-s .1,
-                                  (
-                                    lawful-11b,
-                                    (
-                                      lawful-1f5,
-                                      tt,
-                                    ),
-                                  ),
-                                ),
-                              ),
-                            ),
-                          ),
-                        ),
-                      ),
-                    ),
-                  ),
-                ),
-              ),
-            ),
-          ),
-        ),
-      ),
-    ),
-  );
-}
+returns c = ((refl, refl), ((refl, refl), ((refl, refl), ((refl, refl), ((refl, refl), ((refl, refl), ((refl, refl), octics-hold)))))))

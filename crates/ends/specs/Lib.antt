@@ -1,0 +1,5 @@
+pub mod Work
+pub mod Table
+pub mod Letters
+pub mod Model
+pub mod Choice
