@@ -1,39 +1,17 @@
 -- The product and the inverse of ring 13 through stored powers, by one test over all codes, which antt computes. Assumes nothing.
-use mathlib.Core.Path.{_≡_, refl, sym, subst, _∙_}
-use mathlib.Core.Bool.{Bool, true, false}
-use mathlib.Core.Logic.{_⊎_, inl, inr, _≢_}
+use mathlib.Core.Path.{_≡_, refl, _∙_}
+use mathlib.Core.Bool.{Bool}
+use mathlib.Core.Logic.{_⊎_, inl, inr}
 use Prim.Native.Nat.{ℕ, zero, suc, _+_, _-_, _%_, _<_, min}
 use native.Mathlib.Omega.{arith}
-use native.Mathlib.Nat.{le-of-suc-le-suc, eq-or-lt-of-le}
-use lib.Dec.{T, eqb, eqb→eq, ltb, ltb→lt, lit<}
+use lib.Dec.{eqb, eqb→eq, ltb, ltb→lt, lit<}
 use lib.ListN.{getD}
 use Rattle.rings.specs.Poly.{mul-mod}
 use Rattle.rings.specs.Powers.{powers, logs}
 use Rattle.rings.specs.Laws.{Inverse, NoInverse}
+use Rattle.rings.proofs.Finite.{both, both-left, both-right, each, at, at2}
 use Rattle.rings.proofs.Commuting.{the-inverse}
 use Rattle.rings.proofs.PolyLaws.{mul-mod-laws}
-
-abbrev both : Bool → Bool → Bool
-both true b = b
-both false b = false
-
-both-parts : (a b : Bool) → T (both a b) → T a × T b
-both-parts true b t = (tt, t)
-both-parts false b t = absurd t
-
--- the test passes at each number below n
-abbrev every : ℕ → (ℕ → Bool) → Bool
-every zero f = true
-every (suc n) f = both (f n) (every n f)
-
-every-at : (n : ℕ) (f : ℕ → Bool) → T (every n f) → (k : ℕ) → k < n → T (f k)
-every-at zero f t k h = absurd (omega arith)
-every-at (suc n) f t k h =
-    let p = both-parts (f n) (every n f) t in
-    elim (eq-or-lt-of-le (le-of-suc-le-suc h)) [
-      | inl e ↦ subst (λ (x : ℕ). T (f x)) (sym e) (p .0)
-      | inr l ↦ every-at n f (p .1) k l
-    ]
 
 abbrev through-powers : ℕ → ℕ → ℕ
 through-powers zero b = 0
@@ -44,7 +22,7 @@ agree : (a b : ℕ) → a < 16 → b < 16 → through-powers a b ≡ mul-mod 4 0
 unfolding mul-mod
 agree a b ha hb =
     let test : ℕ → ℕ → Bool = λ x y. eqb (through-powers x y) (mul-mod 4 0x13 x y) in
-    eqb→eq _ _ (every-at 16 (test a) (every-at 16 (λ x. every 16 (test x)) tt a ha) b hb)
+    eqb→eq _ _ (at2 16 16 test tt a b ha hb)
 
 pub zero-product : (a b : ℕ) → a < 16 → b < 16 → (a ≡ 0) ⊎ ((a ≡ 0 → ⊥) × (b ≡ 0)) → 0 ≡ mul-mod 4 0x13 a b
 zero-product a b ha hb z = none a b z ∙ agree a b ha hb
@@ -71,9 +49,11 @@ pub power-inverse : (a : ℕ) → a < 16 → (a ≡ 0 → ⊥) → Inverse 4 1 (
 unfolding mul-mod
 power-inverse a ha na =
     let test : ℕ → Bool = λ x. both (ltb (through-inverse x) 16) (eqb (mul-mod 4 0x13 x (through-inverse x)) (min x 1)) in
-    let passed = both-parts (ltb (through-inverse a) 16) (eqb (mul-mod 4 0x13 a (through-inverse a)) (min a 1)) (every-at 16 test tt a ha) in
-    the-inverse 4 1 (mul-mod 4 0x13) (mul-mod-laws 4 0x13 refl (lit< tt)) a (through-inverse a) ha (ltb→lt _ _ (passed .0))
-    (eqb→eq _ _ (passed .1) ∙ some a na)
+    let code = ltb (through-inverse a) 16 in
+    let one = eqb (mul-mod 4 0x13 a (through-inverse a)) (min a 1) in
+    let passed = at 16 test tt a ha in
+    the-inverse 4 1 (mul-mod 4 0x13) (mul-mod-laws 4 0x13 refl (lit< tt)) a (through-inverse a) ha (ltb→lt _ _ (both-left code one passed))
+    (eqb→eq _ _ (both-right code one passed) ∙ some a na)
   where
     some : (a : ℕ) → (a ≡ 0 → ⊥) → min a 1 ≡ 1
     some zero na = absurd (na refl)

@@ -9,42 +9,21 @@ use lib.Bits.{bitXor}
 use lib.Dec.{T, eqb, eqb→eq, ltb, ltb→lt, lit<}
 use Rattle.rings.specs.Laws.{Laws}
 use Rattle.rings.specs.Poly.{mul-mod}
+use Rattle.rings.proofs.Finite.{each, at}
 use Rattle.rings.proofs.PolyLaws.{mul-mod-laws}
 use Rattle.test_ring.specs.Exchange.{exchange, exchanged-mul}
 use Rattle.test_ring.proofs.Recoded.{Recodes, recoded-laws}
 
-abbrev both : Bool → Bool → Bool
-both true b = b
-both false b = false
-
-both-parts : (a b : Bool) → T (both a b) → T a × T b
-both-parts true b t = (tt, t)
-both-parts false b t = absurd t
-
--- the test passes at each number below n
-abbrev every : ℕ → (ℕ → Bool) → Bool
-every zero f = true
-every (suc n) f = both (f n) (every n f)
-
-every-at : (n : ℕ) (f : ℕ → Bool) → T (every n f) → (k : ℕ) → k < n → T (f k)
-every-at zero f t k h = absurd (omega arith)
-every-at (suc n) f t k h =
-    let p = both-parts (f n) (every n f) t in
-    elim (ℕ-discrete k n) [
-      | yes e ↦ subst (λ (x : ℕ). T (f x)) (sym e) (p .0)
-      | no ne ↦ every-at n f (p .1) k (omega arith)
-    ]
-
 exchange-lt : (a : ℕ) → a < 16 → exchange a < 16
-exchange-lt a h = ltb→lt (exchange a) 16 (every-at 16 (λ a. ltb (exchange a) 16) tt a h)
+exchange-lt a h = ltb→lt (exchange a) 16 (at 16 (λ a. ltb (exchange a) 16) tt a h)
 
 twice : (a : ℕ) → a < 16 → exchange (exchange a) ≡ a
-twice a h = eqb→eq (exchange (exchange a)) a (every-at 16 (λ a. eqb (exchange (exchange a)) a) tt a h)
+twice a h = eqb→eq (exchange (exchange a)) a (at 16 (λ a. eqb (exchange (exchange a)) a) tt a h)
 
 adds : (a b : ℕ) → a < 16 → b < 16 → exchange (bitXor a b) ≡ bitXor (exchange a) (exchange b)
 adds a b ha hb =
     let test : ℕ → ℕ → Bool = λ x y. eqb (exchange (bitXor x y)) (bitXor (exchange x) (exchange y)) in
-    eqb→eq _ _ (every-at 16 (test a) (every-at 16 (λ x. every 16 (test x)) tt a ha) b hb)
+    eqb→eq _ _ (at 16 (test a) (at 16 (λ x. each 16 (test x)) tt a ha) b hb)
 
 laws-13 : Laws 4 1 (mul-mod 4 0x13)
 laws-13 = mul-mod-laws 4 0x13 refl (lit< tt)

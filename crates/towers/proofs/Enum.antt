@@ -6,7 +6,8 @@ use mathlib.Core.Path.{_≡_, refl, sym, subst}
 use Prim.Native.Nat.{ℕ, zero, suc, _*_, _/_, _%_, _<_}
 use lib.Bits.{bitXor}
 use lib.Dec.{T, eqb, ltb}
-use Rattle.towers.proofs.Finite.{both, either, each, some, at}
+use Rattle.rings.proofs.Finite.{both, each, at}
+use Rattle.towers.proofs.Finite.{either, some}
 use Rattle.towers.specs.Matrices.{apply}
 
 -- the polynomial with the n low bits of q as coefficients, at the map with these columns, applied to v

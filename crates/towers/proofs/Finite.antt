@@ -1,4 +1,4 @@
--- Tests over the numbers below a bound, which antt computes, and what a passed test says. Assumes nothing.
+-- More on tests over the numbers below a bound. Assumes nothing.
 use mathlib.Core.Path.{_≡_, refl, sym, _∙_, subst}
 use mathlib.Core.Bool.{Bool, true, false}
 use mathlib.Core.Logic.{_⊎_, inl, inr}
@@ -7,23 +7,12 @@ use native.Mathlib.Nat.{not-suc-le-zero}
 use native.Mathlib.Decide.{ℕ-discrete}
 use native.Mathlib.Omega.{arith}
 use lib.Dec.{T}
+use Rattle.rings.proofs.Finite.{each, at, at2}
 
 -- the test passes at some number below the bound
 abbrev pub some : ℕ → (ℕ → Bool) → Bool
 some zero f = false
 some (suc n) f = elim (f n) [ true ↦ true | false ↦ some n f ]
-
-abbrev pub both : Bool → Bool → Bool
-both true b = b
-both false b = false
-
-pub both-left : (a b : Bool) → T (both a b) → T a
-both-left true b t = tt
-both-left false b t = t
-
-pub both-right : (a b : Bool) → T (both a b) → T b
-both-right true b t = t
-both-right false b t = absurd t
 
 abbrev pub either : Bool → Bool → Bool
 either true b = true
@@ -32,22 +21,6 @@ either false b = b
 pub either-split : (a b : Bool) → T (either a b) → T a ⊎ T b
 either-split true b t = inl tt
 either-split false b t = inr t
-
--- the test passes at each number below the bound
-abbrev pub each : ℕ → (ℕ → Bool) → Bool
-each zero f = true
-each (suc n) f = both (f n) (each n f)
-
-pub at : (n : ℕ) (f : ℕ → Bool) → T (each n f) → (k : ℕ) → k < n → T (f k)
-at zero f t k h = absurd (not-suc-le-zero h)
-at (suc n) f t k h =
-    elim (ℕ-discrete k n) [
-      | yes e ↦ subst (λ (m : ℕ). T (f m)) (sym e) (both-left (f n) (each n f) t)
-      | no ne ↦ at n f (both-right (f n) (each n f) t) k (omega arith)
-    ]
-
-pub at2 : (m n : ℕ) (f : ℕ → ℕ → Bool) → T (each m (λ a. each n (f a))) → (a b : ℕ) → a < m → b < n → T (f a b)
-at2 m n f t a b ha hb = at n (f a) (at m (λ a. each n (f a)) t a ha) b hb
 
 pub at3 : (l m n : ℕ) (f : ℕ → ℕ → ℕ → Bool) → T (each l (λ a. each m (λ b. each n (f a b)))) → (a b c : ℕ) → a < l → b < m → c < n → T (f a b c)
 at3 l m n f t a b c ha hb hc = at2 m n (f a) (at l (λ a. each m (λ b. each n (f a b))) t a ha) b c hb hc

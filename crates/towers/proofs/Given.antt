@@ -11,7 +11,7 @@ use Rattle.rings.specs.Pairing.{pair-mul}
 use Rattle.rings.proofs.PairLaws.{pair-laws}
 use Rattle.towers.specs.Lawful.{Lawful}
 use Rattle.towers.specs.Matrices.{apply, columns, product, unit}
-use Rattle.towers.proofs.Finite.{each, at, at2}
+use Rattle.rings.proofs.Finite.{each, at, at2}
 use Rattle.towers.proofs.Linear.{apply-add, same-columns}
 use Rattle.towers.proofs.Columns.{at-eight}
 use Rattle.towers.proofs.Carry.{spreads-left}

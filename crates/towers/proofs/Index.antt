@@ -7,7 +7,8 @@ use lib.Dec.{ltb, ltb→lt, lit<}
 use Rattle.rings.specs.Laws.{Laws, Field}
 use Rattle.towers.specs.Lawful.{Lawful}
 use Rattle.towers.specs.Place.{IsRoot, image}
-use Rattle.towers.proofs.Finite.{at2, onto}
+use Rattle.rings.proofs.Finite.{at2}
+use Rattle.towers.proofs.Finite.{onto}
 use Rattle.towers.specs.Matrices.{apply}
 use Rattle.towers.proofs.Linear.{apply-add}
 use Rattle.towers.proofs.Enum.{poly}

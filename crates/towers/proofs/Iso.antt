@@ -12,7 +12,8 @@ use lib.Pow.{pow-pos}
 use Rattle.rings.proofs.PolyLaws.{xor-equal}
 use Rattle.rings.specs.Laws.{Laws}
 use Rattle.towers.specs.Place.{IsRoot}
-use Rattle.towers.proofs.Finite.{some, at, at3, found}
+use Rattle.rings.proofs.Finite.{at}
+use Rattle.towers.proofs.Finite.{some, at3, found}
 use Rattle.towers.specs.Matrices.{apply}
 use Rattle.towers.proofs.Linear.{apply-add, by-values, adds-zero, digit, Adds}
 use Rattle.towers.proofs.Enum.{poly}

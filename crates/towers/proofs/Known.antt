@@ -10,7 +10,7 @@ use Rattle.towers.specs.Keeps.{Tells}
 use Rattle.towers.specs.Lawful.{Lawful, Reverse}
 use Rattle.towers.specs.Matrices.{apply, product, unit, entries}
 use Rattle.towers.specs.declared.pair.Pair.{Pair}
-use Rattle.towers.proofs.Finite.{each, at}
+use Rattle.rings.proofs.Finite.{each, at}
 use Rattle.towers.proofs.Given.{bytes, multiplies, lawful-given}
 use Rattle.towers.proofs.Reverses.{eight-columns, reverse-of}
 

@@ -11,7 +11,8 @@ use Rattle.rings.specs.Poly.{carryless, mul-mod}
 use Rattle.octics.specs.Octics.{Accepted}
 use Rattle.towers.specs.Matrices.{apply}
 use Rattle.towers.specs.Place.{image, powers-of, Serves}
-use Rattle.towers.proofs.Finite.{both, both-left, both-right, either, either-split, each, some, at, found}
+use Rattle.rings.proofs.Finite.{both, both-left, both-right, each, at}
+use Rattle.towers.proofs.Finite.{either, either-split, some, found}
 
 abbrev rooted : ℕ → ℕ → Bool
 rooted o r = let s = mul-mod 8 o r r in eqb (mul-mod 8 o s s) (bitXor r 1)

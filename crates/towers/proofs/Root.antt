@@ -9,7 +9,8 @@ use lib.Bits.{bitXor, xor-lt}
 use lib.Dec.{T, eqb, ltb, eqb→eq, ltb→lt, lit<}
 use Rattle.rings.specs.Laws.{Laws, Field}
 use Rattle.towers.specs.Place.{IsRoot}
-use Rattle.towers.proofs.Finite.{both, both-left, both-right, either, either-split, some, at, found}
+use Rattle.rings.proofs.Finite.{both, both-left, both-right, at}
+use Rattle.towers.proofs.Finite.{either, either-split, some, found}
 use Rattle.towers.specs.Matrices.{apply}
 use Rattle.towers.proofs.Linear.{by-values, adds-zero, digit}
 use Rattle.towers.proofs.Enum.{poly, splits, roots, any, picked, decided, tests, tested, test2, test4}

@@ -9,7 +9,8 @@ use lib.ListN.{getD}
 use Rattle.rings.specs.Laws.{Laws, Field}
 use Rattle.rings.proofs.Commuting.{the-inverse}
 use Rattle.towers.specs.Place.{IsRoot}
-use Rattle.towers.proofs.Finite.{at, at2, at3}
+use Rattle.rings.proofs.Finite.{at, at2}
+use Rattle.towers.proofs.Finite.{at3}
 use Rattle.towers.specs.Matrices.{apply}
 use Rattle.towers.proofs.Root.{times-zero, root}
 
