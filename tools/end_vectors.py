@@ -177,14 +177,17 @@ for keyed in (0, 1):
     for n in (0, 1, 4097):
         print("Q", keyed, n, 9 if not keyed else 11 if n == 0 or n > 4096 else 0)
 
+def sector(letter, number, n):
+    good = 1 <= n <= 4096
+    out = seal(letter, KEY, 0xC0DE, number, plain(n)) if good else plain(n)
+    print("S", letter, n, 0 if good else 11, number, "%016X" % digest(out))
+    for label, _ in RINGS:
+        print("O", label, 0 if good else 11, "%016X" % digest(plain(n)))
+
 for letter in "AS":
-    number = 0xFEDCBA9876543210
-    for n in (0, 1, 15, 16, 17, 4096, 4097):
-        good = 1 <= n <= 4096
-        out = seal(letter, KEY, 0xC0DE, number, plain(n)) if good else plain(n)
-        print("S", letter, n, 0 if good else 11, number, "%016X" % digest(out))
-        for label, _ in RINGS[1:]:
-            print("O", label, 0 if good else 11, "%016X" % digest(plain(n)))
-        number += 1
+    for i, n in enumerate((0, 1, 15, 16, 17, 4096, 4097)):
+        sector(letter, 0xFEDCBA9876543210 + i, n)
+    for number in (7, 8, 9):
+        sector(letter, number, 33)
 
 print("Z", 0, 0, 0, 0, 1, 9, 0, 0, 2, 9)

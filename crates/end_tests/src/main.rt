@@ -297,8 +297,27 @@ fn print_open<R: Ring + Drop>(
     println!(rt, "O {label} {r} {d:016X}")
 }
 
-fn print_sector(rt: &impl Print, letter: char, number: u64, n: usize) -> io::Result<()> {
-    let mut end = keyed(Quartic::Ring13, 0xc0de, number, letter);
+// Opens what was sealed at an end over each of four rings.
+fn print_opens(rt: &impl Print, letter: char, number: u64, bytes: &[u8]) -> io::Result<()> {
+    let at_13 = keyed(Quartic::Ring13, 4, 0, letter);
+    print_open(rt, "13", &at_13, number, bytes)?;
+    let at_19 = keyed(Quartic::Ring19, 1, 0, letter);
+    print_open(rt, "19", &at_19, number, bytes)?;
+    let at_1f = keyed(Quartic::Ring1F, 2, 0, letter);
+    print_open(rt, "1F", &at_1f, number, bytes)?;
+    let at_four = keyed(Pairing::new(Four, 2), 3, 0, letter);
+    print_open(rt, "F4", &at_four, number, bytes)
+}
+
+// Seals a sector at an end over a ring, and opens it over each of the four.
+fn print_sector<R: Ring + Drop>(
+    rt: &impl Print,
+    ring: R,
+    letter: char,
+    number: u64,
+    n: usize,
+) -> io::Result<()> {
+    let mut end = keyed(ring, 0xc0de, number, letter);
     let mut area = [0; 4097];
     let bytes = &mut area[0..n.min(4097)];
     plain(bytes);
@@ -306,36 +325,18 @@ fn print_sector(rt: &impl Print, letter: char, number: u64, n: usize) -> io::Res
     let r = sealed(&end, ticket, bytes);
     let d = digest(bytes);
     println!(rt, "S {letter} {n} {r} {number} {d:016X}")?;
-    print_open(
-        rt,
-        "19",
-        &keyed(Quartic::Ring19, 1, 0, letter),
-        number,
-        bytes,
-    )?;
-    print_open(
-        rt,
-        "1F",
-        &keyed(Quartic::Ring1F, 2, 0, letter),
-        number,
-        bytes,
-    )?;
-    print_open(
-        rt,
-        "F4",
-        &keyed(Pairing::new(Four, 2), 3, 0, letter),
-        number,
-        bytes,
-    )
+    print_opens(rt, letter, number, bytes)
 }
 
 fn sectors(rt: &impl Print, letter: char) -> io::Result<()> {
     let mut number: u64 = 0xfedcba9876543210;
     for n in [0, 1, 15, 16, 17, 4096, 4097] {
-        print_sector(rt, letter, number, n)?;
+        print_sector(rt, Quartic::Ring13, letter, number, n)?;
         number = number.wrapping_add(1);
     }
-    Ok(())
+    print_sector(rt, Quartic::Ring19, letter, 7, 33)?;
+    print_sector(rt, Quartic::Ring1F, letter, 8, 33)?;
+    print_sector(rt, Pairing::new(Four, 2), letter, 9, 33)
 }
 
 // Draws a ticket and seals one byte with it: its number, and what seal answers.
