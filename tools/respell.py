@@ -32,7 +32,12 @@ def files():
 def own(path):
     """A module of this repository, and not one of the library or of what the check makes."""
     parts = path.split(".")
-    return parts[0] == "Rattle" and os.path.isdir("crates/" + parts[1]) and parts[-1] not in ("Goals", "Given") and "declared" not in parts
+    return parts[0] == "Rattle" and os.path.isfile("/".join(["crates"] + parts[1:]) + ".antt") or path.startswith("Rattle.") and own_case(parts)
+
+
+def own_case(parts):
+    """A data type of a module of ours, whose constructors are taken by its name."""
+    return len(parts) > 2 and os.path.isfile("/".join(["crates"] + parts[1:-1]) + ".antt")
 
 
 # A name that would fall together with one of the library's in the same file.

@@ -1,4 +1,6 @@
 // The boxes that the ciphers substitute bytes by.
+#![tactic(auto)]
+
 ghost use Rattle.std.specs.Prelude.{◌≡◌, ℕ};
 
 pub mod affine;

@@ -1,4 +1,6 @@
 // Published vectors and values of another implementation, run through the public calls.
+#![tactic(auto)]
+
 #[cfg(test)]
 mod tests {
     use boxes::Substitute;

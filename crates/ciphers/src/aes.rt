@@ -20,7 +20,7 @@ fn triple(b: u8) -> u8
 }
 
 fn sub_bytes<B: Substitute>(boxes: &B, s: [u8; 16]) -> [u8; 16]
-    ensures { result ≡ sub_bytes (boxed boxes.now) s }
+    ensures { result ≡ sub_bytes (B.boxed boxes.now) s }
 {
     let mut out = [0; 16];
     for i in 0..16 {
@@ -93,7 +93,7 @@ fn power_of_x(j: usize) -> u8
 // Byte j of what is added to make word i of a schedule.
 fn temp_byte<B: Substitute>(boxes: &B, w: &[u8], i: usize, j: usize) -> u8
     requires { (4 ≤ i) × ((4 * i ≤ length w.now) × (j < 4)) }
-    ensures { result ≡ temp (boxed boxes.now) w.now i j }
+    ensures { result ≡ temp (B.boxed boxes.now) w.now i j }
 {
     if i % 4 != 0 {
         return w[4 * (i - 1) + j];
@@ -105,7 +105,7 @@ fn temp_byte<B: Substitute>(boxes: &B, w: &[u8], i: usize, j: usize) -> u8
 // Byte j of word i of a schedule, from the words before it.
 fn next_byte<B: Substitute>(boxes: &B, w: &[u8], i: usize, j: usize) -> u8
     requires { (4 ≤ i) × ((4 * i ≤ length w.now) × (j < 4)) }
-    ensures { result ≡ next_byte (boxed boxes.now) w.now i j }
+    ensures { result ≡ next_byte (B.boxed boxes.now) w.now i j }
 {
     w[4 * (i - 4) + j] ^ temp_byte(boxes, w, i, j)
 }
@@ -113,7 +113,7 @@ fn next_byte<B: Substitute>(boxes: &B, w: &[u8], i: usize, j: usize) -> u8
 // The schedule of a key, into the first 176 bytes of `work`.
 pub(crate) fn expand<B: Substitute>(boxes: &B, key: &[u8], work: &mut [u8])
     requires { (length key.now ≡ 16) × (176 ≤ length work.old) }
-    ensures { work.new ≡ key_expansion (boxed boxes.now) key.now ++ drop 176 work.old }
+    ensures { work.new ≡ key_expansion (B.boxed boxes.now) key.now ++ drop 176 work.old }
 {
     work[..16].copy_from_slice(key);
     for n in 16..176 {
@@ -123,20 +123,20 @@ pub(crate) fn expand<B: Substitute>(boxes: &B, key: &[u8], work: &mut [u8])
 
 fn round<B: Substitute>(boxes: &B, w: &[u8; 176], n: usize, s: [u8; 16]) -> [u8; 16]
     requires { n ≤ 10 }
-    ensures { result ≡ full_round (boxed boxes.now) w.now n s }
+    ensures { result ≡ full_round (B.boxed boxes.now) w.now n s }
 {
     add_round_key(w, n, mix_columns(shift_rows(sub_bytes(boxes, s))))
 }
 
 fn final_round<B: Substitute>(boxes: &B, w: &[u8; 176], s: [u8; 16]) -> [u8; 16]
-    ensures { result ≡ last_round (boxed boxes.now) w.now s }
+    ensures { result ≡ last_round (B.boxed boxes.now) w.now s }
 {
     add_round_key(w, 10, shift_rows(sub_bytes(boxes, s)))
 }
 
 // A block under a schedule.
 pub(crate) fn encrypt<B: Substitute>(boxes: &B, w: &[u8; 176], block: [u8; 16]) -> [u8; 16]
-    ensures { result ≡ cipher_a (boxed boxes.now) w.now block }
+    ensures { result ≡ cipher_a (B.boxed boxes.now) w.now block }
 {
     let mut s = add_round_key(w, 0, block);
     for n in 0..9 {

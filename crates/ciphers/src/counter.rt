@@ -69,7 +69,7 @@ fn cover(pad: [u8; 16], start: usize, bytes: &mut [u8])
 
 fn pad_bytes<B: Substitute>(boxes: &B, keys: &Schedule, blocks: Blocks, bytes: &mut [u8])
     requires { InRange bytes.old }
-    ensures { Pads (λ i. cipher_of (boxed boxes.now) keys.now (block_of blocks i)) bytes.old bytes.new }
+    ensures { Pads (λ i. cipher_of (B.boxed boxes.now) keys.now (block_of blocks i)) bytes.old bytes.new }
 {
     for i in 0..(bytes.len() + 15) / 16 {
         let pad = keys.encrypt(boxes, blocks.block(i as u16));
@@ -83,7 +83,7 @@ fn work<B: Substitute>(
     blocks: Blocks,
     bytes: &mut [u8],
 ) -> Result<(), Refusal>
-    ensures { Worked (λ i. cipher_of (boxed boxes.now) keys.now (block_of blocks i)) bytes.old result bytes.new }
+    ensures { Worked (λ i. cipher_of (B.boxed boxes.now) keys.now (block_of blocks i)) bytes.old result bytes.new }
 {
     if bytes.is_empty() || bytes.len() > 4096 {
         return Err(Refusal::SectorLength);
@@ -100,7 +100,7 @@ pub fn work_sector<B: Substitute>(
     number: u64,
     bytes: &mut [u8],
 ) -> Result<(), Refusal>
-    ensures { Worked (sector_pads (cipher_of (boxed boxes.now) keys.now) name number) bytes.old result bytes.new }
+    ensures { Worked (sector_pads (cipher_of (B.boxed boxes.now) keys.now) name number) bytes.old result bytes.new }
 {
     work(boxes, keys, Blocks::Sector { name, number }, bytes)
 }
@@ -112,7 +112,7 @@ pub fn work_from<B: Substitute>(
     first: u128,
     bytes: &mut [u8],
 ) -> Result<(), Refusal>
-    ensures { Worked (counted_pads (cipher_of (boxed boxes.now) keys.now) first) bytes.old result bytes.new }
+    ensures { Worked (counted_pads (cipher_of (B.boxed boxes.now) keys.now) first) bytes.old result bytes.new }
 {
     work(boxes, keys, Blocks::From(first), bytes)
 }

@@ -33,7 +33,7 @@ fn front(work: &[u8]) -> [u8; 176]
 
 fn aes_bytes<B: Substitute>(boxes: &B, key: &[u8], work: &mut [u8]) -> [u8; 176]
     requires { (length key.now ≡ 16) × (176 ≤ length work.old) }
-    ensures schedule { result ≡ key_expansion (boxed boxes.now) key.now }
+    ensures schedule { result ≡ key_expansion (B.boxed boxes.now) key.now }
     ensures held { work.new ≡ result ++ drop 176 work.old }
 {
     aes::expand(boxes, key, work);
@@ -42,7 +42,7 @@ fn aes_bytes<B: Substitute>(boxes: &B, key: &[u8], work: &mut [u8]) -> [u8; 176]
 
 fn sm4_words<B: Substitute>(boxes: &B, key: &[u8], work: &mut [u8]) -> [u32; 32]
     requires { (length key.now ≡ 16) × (128 ≤ length work.old) }
-    ensures schedule { result ≡ schedule_s (boxed boxes.now) key.now }
+    ensures schedule { result ≡ schedule_s (B.boxed boxes.now) key.now }
     ensures held { work.new ≡ bytes_of result ++ drop 128 work.old }
 {
     sm4::expand(boxes, key, work);
@@ -57,7 +57,7 @@ impl Schedule {
         key: &[u8],
         work: &mut [u8],
     ) -> Result<Schedule, Refusal>
-        ensures { Loaded (boxed boxes.now) cipher key.now work.old result work.new }
+        ensures { Loaded (B.boxed boxes.now) cipher key.now work.old result work.new }
     {
         if key.len() != 16 {
             return Err(Refusal::KeyLength);
@@ -73,7 +73,7 @@ impl Schedule {
 
     // A block under the schedule.
     pub fn encrypt<B: Substitute>(&self, boxes: &B, block: [u8; 16]) -> [u8; 16]
-        ensures { result ≡ cipher_of (boxed boxes.now) self.now block }
+        ensures { result ≡ cipher_of (B.boxed boxes.now) self.now block }
     {
         match self {
             Schedule::AesBytes(bytes) => aes::encrypt(boxes, bytes, block),

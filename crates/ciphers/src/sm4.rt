@@ -45,7 +45,7 @@ fn write_word(bytes: &mut [u8], i: usize, w: u32)
 }
 
 fn substitute_word<B: Substitute>(boxes: &B, w: u32) -> u32
-    ensures { result ≡ tau (boxed boxes.now) w }
+    ensures { result ≡ tau (B.boxed boxes.now) w }
 {
     let [a, b, c, d] = w.to_be_bytes();
     word_of(
@@ -70,7 +70,7 @@ fn spread_key(b: u32) -> u32
 
 // The last three words and the next one, with the round key k.
 fn round<B: Substitute>(boxes: &B, x: [u32; 4], k: u32) -> [u32; 4]
-    ensures { result ≡ moved (boxed boxes.now) linear x k }
+    ensures { result ≡ moved (B.boxed boxes.now) linear x k }
 {
     let t = substitute_word(boxes, x[1] ^ x[2] ^ x[3] ^ k);
     [x[1], x[2], x[3], x[0] ^ spread(t)]
@@ -78,7 +78,7 @@ fn round<B: Substitute>(boxes: &B, x: [u32; 4], k: u32) -> [u32; 4]
 
 // The same in the key schedule, with the constant k.
 fn key_round<B: Substitute>(boxes: &B, x: [u32; 4], k: u32) -> [u32; 4]
-    ensures { result ≡ moved (boxed boxes.now) linear_key x k }
+    ensures { result ≡ moved (B.boxed boxes.now) linear_key x k }
 {
     let t = substitute_word(boxes, x[1] ^ x[2] ^ x[3] ^ k);
     [x[1], x[2], x[3], x[0] ^ spread_key(t)]
@@ -119,8 +119,8 @@ fn first_key_words(key: &[u8]) -> [u32; 4]
 // The round keys of a key, into the first 128 bytes of `work`.
 pub(crate) fn expand<B: Substitute>(boxes: &B, key: &[u8], work: &mut [u8])
     requires { (length key.now ≡ 16) × (128 ≤ length work.old) }
-    ensures held { work.new ≡ bytes_of (schedule_s (boxed boxes.now) key.now) ++ drop 128 work.old }
-    ensures words { (k : ℕ) → k < 32 → slice_index (schedule_s (boxed boxes.now) key.now) k < 2 ^ 32 }
+    ensures held { work.new ≡ bytes_of (schedule_s (B.boxed boxes.now) key.now) ++ drop 128 work.old }
+    ensures words { (k : ℕ) → k < 32 → slice_index (schedule_s (B.boxed boxes.now) key.now) k < 2 ^ 32 }
 {
     let mut x = first_key_words(key);
     for i in 0..32 {
@@ -154,7 +154,7 @@ fn written(x: [u32; 4]) -> [u8; 16]
 
 // A block under round keys.
 pub(crate) fn encrypt<B: Substitute>(boxes: &B, keys: &[u32; 32], block: [u8; 16]) -> [u8; 16]
-    ensures { result ≡ cipher_s (boxed boxes.now) keys.now block }
+    ensures { result ≡ cipher_s (B.boxed boxes.now) keys.now block }
 {
     let mut x = read_words(&block);
     for k in keys {

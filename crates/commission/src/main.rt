@@ -1,4 +1,6 @@
 // Reads a commissioning sheet from standard input, runs it at two ends, and prints its lines.
+#![tactic(auto)]
+
 use runs::run::run;
 use std::io::Read;
 

@@ -1,4 +1,6 @@
 // The display's function for programs in C.
+#![tactic(auto)]
+
 ghost use Rattle.std.specs.Prelude.{◌≡◌};
 ghost use Rattle.display.specs.Answers.{code_of, Displayed};
 

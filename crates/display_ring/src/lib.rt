@@ -1,4 +1,6 @@
 // The display's ring, and the pairs that a fit keeps over it.
+#![tactic(auto)]
+
 ghost use Rattle.std.specs.Prelude.{◌≡◌};
 ghost use Rattle.display_ring.specs.Display.{four_mul, display_mul, pair_11b, pair_1f5};
 ghost use Rattle.towers.specs.Keeps.{Keeps};

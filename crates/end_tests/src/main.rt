@@ -1,4 +1,6 @@
 // Runs the calls of ends at their edges, and prints what they answer.
+#![tactic(auto)]
+
 use ends::end::End;
 use ends::records::{Answer, Told};
 use ends::ticket::{Ticket, burn};

@@ -1,4 +1,6 @@
 // Link ends: an end fits a tower to an octic, loads a key, draws tickets, and seals and opens sectors.
+#![tactic(auto)]
+
 mod boxed;
 pub mod display;
 pub mod end;

@@ -1,4 +1,6 @@
 // The worked cases that are proved as facts of the definitions.
+#![tactic(auto)]
+
 ghost use Rattle.std.specs.Prelude.{◌≡◌, length};
 ghost use Rattle.facts.specs.Cases.{cases, AllHold};
 

@@ -1,4 +1,6 @@
 // Times the fit: every accepted octic over four rings, many times over. The mean goes to standard error.
+#![tactic(auto)]
+
 use rings::Ring;
 use rings::pairing::Pairing;
 use rings::poly::{Four, Quartic};

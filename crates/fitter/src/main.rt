@@ -1,4 +1,6 @@
 // For the yard: reads rings and octics, and lays out the pair that the fit keeps for each.
+#![tactic(auto)]
+
 mod entry;
 mod lines;
 

@@ -1,4 +1,6 @@
 // Two ends of a link at work, one over ring 13 and the other over the display's ring: prints each call with its answer.
+#![tactic(auto)]
+
 mod lines;
 
 use lines::{print_fit, print_key, print_sector, print_tell, print_wipe};

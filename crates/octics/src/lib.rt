@@ -1,4 +1,6 @@
 // Octics, polynomials of degree 8 over the field of two elements, and their divisors.
+#![tactic(auto)]
+
 ghost use Rattle.std.specs.Prelude.{◌≡◌, ◌+◌, ◌*◌, ◌^◌, ◌<◌, ◌≤◌};
 ghost use Rattle.octics.specs.Division.{Degree, First, remainder};
 ghost use Rattle.octics.specs.Octics.{Checked};

@@ -1,4 +1,6 @@
 // Prints the product tables and the inverses of rings of every kind.
+#![tactic(auto)]
+
 use rings::Ring;
 use rings::pairing::Pairing;
 use rings::poly::{Four, Octic, Quartic};

@@ -1,4 +1,6 @@
 // Tests of the rings on examples.
+#![tactic(auto)]
+
 #[cfg(test)]
 mod tests {
     use rings::Ring;

@@ -1,4 +1,6 @@
 // Rings of codes: a code is a number below 2 to the power of a width, and the sum of two codes is their exclusive or.
+#![tactic(auto)]
+
 ghost use Rattle.std.specs.Prelude.{◌≡◌, ℕ, ◌%◌, ◌^◌, ◌<◌, ◌≤◌};
 ghost use Rattle.rings.specs.Laws.{Narrow, Laws, Inverts};
 

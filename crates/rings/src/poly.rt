@@ -161,7 +161,7 @@ impl Ring for Octic {
 
     ghost mul = { λ r. mul_mod 8 r.modulus };
 
-    ghost narrow = { first_of (Prim.search rules, Prim.grind (arith, Self.row.coded.inj)) };
+    ghost narrow = { Prim.search rules };
 
     ghost laws = { λ r. mul_mod_laws 8 r.modulus r.degree (lit< tt) };
 

@@ -1,5 +1,7 @@
 // Seals sectors: each line of the input has a cipher's letter, a key, a name, a number and a sector, the last four in hexadecimal.
 // Prints each counter block with its pad, and the sealed bytes; a bad line is named with what is bad in it.
+#![tactic(auto)]
+
 use boxes::Substitute;
 use boxes::direct::{DirectA, DirectS};
 use ciphers::counter::{counter_block, work_sector};

@@ -1,4 +1,6 @@
 // Tests of the reader of sheets on examples.
+#![tactic(auto)]
+
 #[cfg(test)]
 mod tests {
     use ciphers::keys::Cipher;

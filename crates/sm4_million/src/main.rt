@@ -1,4 +1,6 @@
 // The block of SM4's second example: the first example's, encrypted a million times.
+#![tactic(auto)]
+
 ghost use Rattle.std.specs.Prelude.{◌≡◌};
 ghost use Rattle.boxes.specs.Boxes.{box_s};
 ghost use Rattle.sm4_million.specs.Stored.{stored_s, iterated};

@@ -1,4 +1,6 @@
 // A ring for tests alone: the field of sixteen codes in a basis that no other kind of ring has.
+#![tactic(auto)]
+
 ghost use Rattle.std.specs.Prelude.{◌≡◌, ℕ, ◌<◌};
 ghost use Rattle.test_ring.specs.Exchange.{exchange, exchanged_mul};
 ghost use Rattle.test_ring.specs.Exchanging.{exchanged_laws};

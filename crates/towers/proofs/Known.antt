@@ -6,7 +6,7 @@ use Rattle.towers.specs.Lawful.{Lawful, Reverse}
 use Rattle.towers.specs.Matrices.{apply, product, unit, entries}
 use Rattle.towers.specs.declared.pair.Pair.{Pair}
 use Rattle.rings.proofs.Finite.{each, at}
-use Rattle.towers.proofs.Given.{bytes, multiplies, lawful-given}
+use Rattle.towers.proofs.Given.{bytes, multiplies, lawful_given}
 use Rattle.towers.proofs.Reverses.{eight_columns, reverse_of}
 
 -- the columns bs go to the columns of the unit matrix
@@ -27,7 +27,7 @@ pub record Stated (mul oct : ℕ → ℕ → ℕ) (p : Pair) : Type 0 where
 
 module _ (mul : ℕ → ℕ → ℕ) (R : Laws 4 1 mul) (oct : ℕ → ℕ → ℕ) (E : Laws 8 1 oct) (p : Pair) (S : Stated mul oct p) where
   lawful : Lawful mul oct p.constant (apply p.columns)
-  lawful = lawful-given mul R oct E p.constant S.const p.columns p.reverse S.eight S.small S.keep S.back
+  lawful = lawful_given mul R oct E p.constant S.const p.columns p.reverse S.eight S.small S.keep S.back
 
   reversed : Reverse (apply p.columns) (apply p.reverse)
   reversed =

@@ -1,4 +1,6 @@
 // Lawful pairs of a tower field and an octic, and the fit that keeps the least of them.
+#![tactic(auto)]
+
 ghost use Rattle.std.specs.Prelude.{◌≡◌};
 ghost use Rattle.rings.specs.Laws.{Field};
 ghost use Rattle.towers.specs.Fitted.{Sixteen, Fitted};

@@ -1,4 +1,6 @@
 // Prints the fit of every number of 16 bits over fields of sixteen codes, what other rings are refused, and trails of all bytes.
+#![tactic(auto)]
+
 use refusals::Refusal;
 use rings::Ring;
 use rings::pairing::Pairing;

@@ -1,4 +1,6 @@
 // Reads bytes as words of two hexadecimal digits, and prints the way of each through the tower that the fit keeps over ring 13.
+#![tactic(auto)]
+
 mod lines;
 mod steps;
 

@@ -1,4 +1,6 @@
 // A caller of the watch: what is sealed at the first end is opened at the second, shown from the watch's contracts alone.
+#![tactic(auto)]
+
 ghost use Rattle.std.specs.Prelude.{◌≡◌};
 
 use refusals::Refusal;

@@ -1,4 +1,6 @@
 // Published vectors of the standards: each function gives the published bytes, and its contract says that the definitions give the same.
+#![tactic(auto)]
+
 ghost use Rattle.std.specs.Prelude.{◌≡◌, ◌++◌, get_or};
 ghost use Rattle.ciphers.specs.Counter.{big_endian};
 ghost use Rattle.vectors.specs.Vectors.{box_bytes, fips_b, fips_c1, gbt_example, counter_blocks};

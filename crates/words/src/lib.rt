@@ -1,4 +1,6 @@
 // Reads the words of a text of bytes: each word is a part of the text, with its place.
+#![tactic(auto)]
+
 ghost use Rattle.std.specs.Prelude.{◌≡◌, ◌<◌, ◌≤◌, T, length, slice_index};
 ghost use Rattle.words.specs.Words.{Blank, Blanks, NoBlanks, Next};
 ghost use Rattle.words.specs.Hex.{hex_value, hex_byte};

@@ -3,9 +3,9 @@ use Rattle.ciphers.specs.Counter.{counter_block}
 use Rattle.ciphers.proofs.CounterBlocks.{counter_block_tells}
 use Rattle.ciphers.proofs.counter.counter_block.Goals as goal
 
-value : (c : goal.After-lay-out) → c.lay-out.result ≡ counter_block c.args.name c.args.number c.args.index
+value : (c : goal.After-lay_out) → c.lay_out.result ≡ counter_block c.args.name c.args.number c.args.index
 unfolding counter_block
-value c = c.lay-out.ensures
+value c = c.lay_out.ensures
 
 pub returns : goal.returns
 returns c = record {

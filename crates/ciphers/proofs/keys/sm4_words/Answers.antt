@@ -8,5 +8,5 @@ pub returns : goal.returns
 returns g c =
     let rest = drop 128 c.args.work.now in
     let back = schedule_back (g.B.Substitute.boxed c.args.boxes.now) c.args.key.now rest c.expand.ensures.words in
-    let e = c.read-keys.ensures ∙ ap (λ (l : List ℕ). map (word_at l) (range_with_len 0 32)) c.expand.ensures.held ∙ back in
+    let e = c.read_keys.ensures ∙ ap (λ (l : List ℕ). map (word_at l) (range_with_len 0 32)) c.expand.ensures.held ∙ back in
     record { schedule = e; held = c.expand.ensures.held ∙ ap (λ (l : List ℕ). bytes_of l ++ rest) (sym e) }

@@ -7,6 +7,6 @@ returns c =
     let xs = c.args.bytes.now in
     let a = 4 * c.args.i in
     let four : a + (a + 4 - a) ≡ a + 4 = omega arith in
-    let word = c.copy-from-slice.ensures.after ∙ c.to-be-bytes.ensures in
+    let word = c.copy_from_slice.ensures.after ∙ c.to_be_bytes.ensures in
     let rest = drop-drop (a + 4 - a) a xs ∙ ap (λ (n : ℕ). drop n xs) four in
     λ j. take a xs ++ (word j ++ rest j)

@@ -5,7 +5,7 @@ use Rattle.rings.proofs.pairing.divide_halves.Goals as goal
 pub join-requires : goal.join-requires
 join-requires g c =
     let laws = g.met.R.Ring.laws c.args.ring.now in
-    let e = c.bit-width-w.ensures in
+    let e = c.bit_width-w.ensures in
     record {
       narrow = omega (arith, narrow_half g.R.Ring.bits g.met.R.Ring.narrow c.requires);
       high = code_below _ _ laws e c.product-high.ensures;

@@ -6,7 +6,7 @@ use Rattle.rings.proofs.pairing.multiply_halves.Goals as goal
 pub join-requires : goal.join-requires
 join-requires g c =
     let laws = g.met.R.Ring.laws c.args.ring.now in
-    let e = c.bit-width-w.ensures in
+    let e = c.bit_width-w.ensures in
     record {
       narrow = omega (arith, narrow_half g.R.Ring.bits g.met.R.Ring.narrow c.requires);
       high = xor_lt _ _ _ (xor_lt _ _ _ (code_below _ _ laws e c.product-top.ensures) (code_below _ _ laws e c.product-left.ensures)) (code_below _ _ laws e c.product-right.ensures);

@@ -11,13 +11,13 @@ returns-in-Some g c =
     let mul = g.R.Ring.mul c.args.ring.now in
     let a = c.args.a % 2 ^ (w + w) in
     let k = c.in-Some.m in
-    let r : c.divide-halves.result ≡ pair_inverse w mul a k = let e = pair_inverse_low w mul c.args.a k in cc in
-    let halves : Inverse (w + w) 1 (pair_mul w mul c.args.constant) a c.divide-halves.result =
+    let r : c.divide_halves.result ≡ pair_inverse w mul a k = let e = pair_inverse_low w mul c.args.a k in cc in
+    let halves : Inverse (w + w) 1 (pair_mul w mul c.args.constant) a c.divide_halves.result =
     subst (Inverse (w + w) 1 (pair_mul w mul c.args.constant) a) (sym r)
     (pair_has_inverse w 1 mul (g.met.R.Ring.laws c.args.ring.now) c.args.constant a k (mod-lt _ (pow_pos (w + w)))
-    (subst (λ (x : ℕ). Inverse w 1 mul (x % 2 ^ w) k) c.pair-norm.ensures.halves c.in-Some.ensures)) in
+    (subst (λ (x : ℕ). Inverse w 1 mul (x % 2 ^ w) k) c.pair_norm.ensures.halves c.in-Some.ensures)) in
     at_halved w mul c.args.constant g.met.R.Ring.narrow c.args.a
-    (λ v f. Inverse v 1 f (c.args.a % 2 ^ v) c.divide-halves.result) c.requires halves
+    (λ v f. Inverse v 1 f (c.args.a % 2 ^ v) c.divide_halves.result) c.requires halves
 
 pub returns-in-None : goal.returns-in-None
 returns-in-None g c =
@@ -28,5 +28,5 @@ returns-in-None g c =
     let halves : NoInverse (w + w) 1 (pair_mul w mul c.args.constant) a =
     pair_no_inverse w 1 mul laws c.args.constant a (mod-lt _ (pow_pos (w + w)))
     (subst (NoInverse w 1 mul) (mod-eq_of_lt (norm_lt w 1 mul laws c.args.constant a))
-    (subst (λ (x : ℕ). NoInverse w 1 mul (x % 2 ^ w)) c.pair-norm.ensures.halves c.in-None.ensures)) in
+    (subst (λ (x : ℕ). NoInverse w 1 mul (x % 2 ^ w)) c.pair_norm.ensures.halves c.in-None.ensures)) in
     at_halved w mul c.args.constant g.met.R.Ring.narrow c.args.a (λ v f. NoInverse v 1 f (c.args.a % 2 ^ v)) c.requires halves

@@ -8,7 +8,7 @@ returns g c =
     let w = g.R.Ring.bits in
     let mul = g.R.Ring.mul c.args.ring.now in
     let narrow = g.met.R.Ring.narrow in
-    let e : c.norm-form.result ≡ norm w mul c.args.constant (c.args.a % 2 ^ (w + w)) =
+    let e : c.norm_form.result ≡ norm w mul c.args.constant (c.args.a % 2 ^ (w + w)) =
     let n = norm_low w mul c.args.constant c.args.a in cc in
     record {
       halves = e;

@@ -4,8 +4,8 @@ use Rattle.std.proofs.lemmas.List.{at_drop_more, at_drop_all}
 use Rattle.towers.specs.Matrices.{entries}
 use Rattle.towers.proofs.matrix.count.Goals as goal
 
-pub overflow-add-total : goal.overflow-add-total
-overflow-add-total c =
+pub overflow_add-total : goal.overflow_add-total
+overflow_add-total c =
     let byte : get_or c.args.columns.now c.loop-column.column-index 0 < 256 = omega arith in
     omega (arith, ones-le 8 _ byte, c.loop-column.invariant.0)
 

@@ -2,7 +2,7 @@ use Rattle.rings.specs.Poly.{mul_mod}
 use Rattle.towers.proofs.Steps.{skips}
 use Rattle.towers.proofs.search.search_row.Goals as goal
 
-pub returns-then-not-is-root : goal.returns-then-not-is-root
-returns-then-not-is-root c =
+pub returns-then-not-is_root : goal.returns-then-not-is_root
+returns-then-not-is_root c =
     skips c.args.basis.now.powers c.args.basis.now.coordinates (mul_mod 8 c.args.octic.now.modulus)
-    c.args.r c.args.start c.if-not-is-root.ensures c.requires
+    c.args.r c.args.start c.if-not-is_root.ensures c.requires

@@ -8,8 +8,8 @@ use Rattle.towers.proofs.trail.go_on.Goals as goal
 pub returns : goal.returns
 returns g c =
     let mul = g.R.Ring.mul c.args.ring.now in
-    let t : Trail = record { code = c.args.code; inverse = c.tower-inverse-inverse.result; byte = c.combine.result } in
-    let walks : Trails g.R.Ring.bits mul c.args.pair.now c.args.byte t = record { code = c.requires; inverse = c.tower-inverse-inverse.ensures; byte = c.combine.ensures } in
+    let t : Trail = record { code = c.args.code; inverse = c.tower_inverse-inverse.result; byte = c.combine.result } in
+    let walks : Trails g.R.Ring.bits mul c.args.pair.now c.args.byte t = record { code = c.requires; inverse = c.tower_inverse-inverse.ensures; byte = c.combine.ensures } in
     let laws = g.met.R.Ring.laws c.args.ring.now in
     let through = through g.R.Ring.bits mul c.args.pair.now c.args.byte t laws (omega arith) (omega arith) walks in
     record {
