@@ -12,5 +12,5 @@ by_cases o (suc x) y none some = sym (inverse_is o (suc x) y (some (omega arith)
 
 pub returns : goal.returns
 returns g c =
-    let end = c.trail-of.ensures.arrives c.args.octic c.requires.field c.requires.accepted c.requires.kept in
+    let end = c.trail_of.ensures.arrives c.args.octic c.requires.field c.requires.accepted c.requires.kept in
     by_cases c.args.octic c.args.x _ end.0 end.1

@@ -14,4 +14,4 @@ returns-then-count-lt2 c =
 pub returns-in-Some : goal.returns-in-Some
 returns-in-Some c =
     sector_inside c.args.part.now c.if-count-lt2.false c.if-count-gt512.false ∙ c.in-Some.ensures
-    ∙ ap (λ (bs : List ℕ). Some bs) (sym (take_at c.decode.new.bytes _ c.in-ok-bytes.bytes.len (omega arith)))
+    ∙ ap (λ (bs : List ℕ). Some bs) (sym (take_at c.decode.new.bytes _ c.in_ok-bytes.bytes.len (omega arith)))

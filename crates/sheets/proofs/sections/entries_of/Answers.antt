@@ -4,18 +4,18 @@ use Rattle.sheets.specs.Steps.{left}
 use Rattle.sheets.proofs.Times.{so_far_push, so_far_all, so_far_err}
 use Rattle.sheets.proofs.sections.entries_of.Goals as goal
 
-pub returns-in-err-read : goal.returns-in-err-read
-returns-in-err-read g c =
-    let p = err_from_is_err_and c.from-residual.result c.from-residual.ensures.1 in
+pub returns-in_err-read : goal.returns-in_err-read
+returns-in_err-read g c =
+    let p = err_from_is_err_and c.from_residual.result c.from_residual.ensures.1 in
     record {
-      read = rw (p.1, p.2) (so_far_err g.E.Entry.item g.E.Entry.form _ _ _ c.loop.counter _ _ _ c.in-err-read.field-0.0 (left c.read.new.reader) (omega arith) c.loop.invariant.0 c.in-err-read.ensures.read c.loop.invariant.1);
+      read = rw (p.1, p.2) (so_far_err g.E.Entry.item g.E.Entry.form _ _ _ c.loop.counter _ _ _ c.in_err-read.field-0.0 (left c.read.new.reader) (omega arith) c.loop.invariant.0 c.in_err-read.ensures.read c.loop.invariant.1);
       kept = c.read.ensures.kept ∙ c.loop.invariant.0;
     }
 
 pub loop-preserved : goal.loop-preserved
 loop-preserved g c = (
-  c.in-ok-read.ensures.kept ∙ c.loop.invariant.0,
-  so_far_push g.E.Entry.item g.E.Entry.form _ _ _ c.loop.counter _ _ _ _ _ _ (omega arith) c.loop.invariant.0 c.in-ok-read.ensures.read c.in-ok-push.ensures.items c.loop.invariant.1,
+  c.in_ok-read.ensures.kept ∙ c.loop.invariant.0,
+  so_far_push g.E.Entry.item g.E.Entry.form _ _ _ c.loop.counter _ _ _ _ _ _ (omega arith) c.loop.invariant.0 c.in_ok-read.ensures.read c.in_ok-push.ensures.items c.loop.invariant.1,
 )
 
 pub returns : goal.returns
