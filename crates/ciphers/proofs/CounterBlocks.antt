@@ -1,5 +1,5 @@
 -- Counter blocks of different sectors or indices differ. Assumes nothing.
-use Rattle.std.proofs.Common.{◌≡◌, ℕ, zero, suc, ◌+◌, ◌-◌, ◌*◌, ◌/◌, ◌%◌, ◌^◌, ◌<◌, ◌≤◌, List, map, get_or, take, drop, sym, refl, ap, ◌∙◌, mul_comm, pow-suc, arith, lit<}
+use Rattle.std.proofs.Common.{◌≡◌, ℕ, zero, suc, ◌-◌, ◌*◌, ◌/◌, ◌%◌, ◌^◌, ◌<◌, List, get_or, take, drop, sym, ap, ◌∙◌, mul_comm, pow-suc, arith, lit<}
 use native.Mathlib.Nat.{div-div-eq-div-mul}
 use Rattle.std.proofs.lemmas.List.FromFn.{get_or-map-range_with_len}
 use Rattle.ciphers.specs.Counter.{big_endian, counter_block, Tells}

@@ -1,5 +1,5 @@
 -- The steps of the schedule and of the rounds of AES. Assumes nothing.
-use Rattle.std.proofs.Common.{◌≡◌, ℕ, zero, suc, ◌+◌, ◌-◌, ◌*◌, ◌/◌, ◌%◌, ◌<◌, ◌≤◌, List, [], ◌∷◌, ◌++◌, length, get_or, take, drop, set, sym, refl, ap, ◌∙◌, subst, add-one, arith}
+use Rattle.std.proofs.Common.{◌≡◌, ℕ, zero, suc, ◌+◌, ◌-◌, ◌*◌, ◌/◌, ◌%◌, ◌<◌, ◌≤◌, List, [], ◌∷◌, ◌++◌, length, take, drop, set, sym, ap, ◌∙◌, add-one, arith}
 use Rattle.std.proofs.lemmas.List.{get_or-take, take_more_set, length-take-le, take-append-drop, drop-set-lt, drop-drop, drop_at, take_at, length_push}
 use Rattle.rings.specs.Poly.{mul_mod}
 use Rattle.ciphers.specs.Aes.{power, next_byte, expanded, key_expansion, rounds, full_round}

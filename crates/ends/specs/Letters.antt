@@ -1,5 +1,5 @@
 -- The letters of the ciphers, and each cipher's octic and box. Assumes nothing.
-use Rattle.std.specs.Prelude.{ℕ, Bool, true, false, cond, List, Some, None, Option, ◌==◌}
+use Rattle.std.specs.Prelude.{ℕ, Bool, false, cond, List, Some, None, Option, ◌==◌}
 use Rattle.boxes.specs.Boxes.{box_a, box_s}
 use Rattle.ciphers.specs.declared.keys.Cipher.{Cipher}
 use Rattle.ciphers.specs.declared.keys.Cipher.TheVariants.{Aes, Sm4}

@@ -4,7 +4,7 @@ use lib.Bits.{bit_xor}
 use lib.Pow.{field, mod-mod-pow}
 use Rattle.rings.specs.Poly.{pick, act, carryless}
 use Rattle.rings.proofs.Finite.{both, both_left, each, at2}
-use Rattle.octics.specs.Division.{cut, rest_from, remainder, Degree}
+use Rattle.octics.specs.Division.{cut, remainder, Degree}
 use Rattle.octics.specs.Octics.{Divides}
 
 -- the k low bits count

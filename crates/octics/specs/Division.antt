@@ -1,5 +1,5 @@
 -- Division of polynomials over the field of two elements, as the test for divisors takes it. Assumes nothing.
-use Rattle.std.specs.Prelude.{◌≡◌, ℕ, zero, suc, ◌+◌, ◌-◌, ◌*◌, ◌^◌, ◌<◌, ◌≤◌, cond, Some, None, Option, bit_xor, nat_le}
+use Rattle.std.specs.Prelude.{ℕ, zero, suc, ◌+◌, ◌-◌, ◌*◌, ◌^◌, ◌<◌, ◌≤◌, cond, Some, None, Option, bit_xor, nat_le}
 use Rattle.octics.specs.Octics.{Divides}
 
 -- one step of a division by d, of degree k: the multiple of d by the power i is taken off where the rest reaches it

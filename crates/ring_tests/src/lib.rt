@@ -19,12 +19,12 @@ mod tests {
         assert!(rt; same_width::<Quartic>(4));
         assert!(rt; same_width::<Powers13>(4));
         assert!(rt; same_width::<Octic>(8));
-        assert!(rt; same_width::<PairingRing<Four>>(4));
-        assert!(rt; same_width::<PairingRing<Quartic>>(8));
-        assert!(rt; same_width::<PairingRing<Powers13>>(8));
-        assert!(rt; same_width::<PairingRing<Octic>>(8));
-        assert!(rt; same_width::<PairingRing<PairingRing<Four>>>(8));
-        assert!(rt; same_width::<PairingRing<PairingRing<PairingRing<Four>>>>(8));
+        assert!(rt; same_width::<Pairing<Four>>(4));
+        assert!(rt; same_width::<Pairing<Quartic>>(8));
+        assert!(rt; same_width::<Pairing<Powers13>>(8));
+        assert!(rt; same_width::<Pairing<Octic>>(8));
+        assert!(rt; same_width::<Pairing<Pairing<Four>>>(8));
+        assert!(rt; same_width::<Pairing<Pairing<Pairing<Four>>>>(8));
     }
 
     // The two forms of ring 13 agree, whatever stands above the low four bits.

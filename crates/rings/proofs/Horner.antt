@@ -1,5 +1,5 @@
 -- One step of Horner's rule, as the code takes it. Assumes nothing.
-use Rattle.std.proofs.Common.{◌≡◌, ℕ, zero, suc, ◌+◌, ◌-◌, ◌/◌, ◌%◌, ◌^◌, ◌<◌, ◌≤◌, sym, refl, ap, ◌∙◌, ap₂, mod-lt, zero-lt-suc, add-one, arith, shr-shr}
+use Rattle.std.proofs.Common.{◌≡◌, ℕ, zero, suc, ◌-◌, ◌/◌, ◌%◌, ◌^◌, ◌<◌, ◌≤◌, sym, refl, ap, ◌∙◌, mod-lt, zero-lt-suc, add-one, arith, shr-shr}
 use lib.Bits.{bit_xor, bit_and, and_mask}
 use Rattle.rings.specs.Poly.{pick, act}
 

@@ -3,7 +3,7 @@ use Rattle.std.proofs.Common.{◌≡◌, ℕ, zero, suc, ◌+◌, ◌-◌, ◌%�
 use Rattle.rings.specs.Poly.{mul_mod}
 use Rattle.rings.specs.Powers.{powers, logs}
 use Rattle.rings.specs.Laws.{Inverse, NoInverse}
-use Rattle.rings.proofs.Finite.{both, both_left, both_right, each, at, at2}
+use Rattle.rings.proofs.Finite.{both, both_left, both_right, at, at2}
 use Rattle.rings.specs.Commuting.{the_inverse}
 use Rattle.rings.specs.PolyLaws.{mul_mod_laws}
 

@@ -1,8 +1,8 @@
 -- The pairing as the code works it out: the ring below reads the low bits of what it is handed. Assumes nothing.
 use Rattle.std.specs.Prelude.{◌≡◌, ℕ, ◌+◌, ◌*◌, ◌/◌, ◌%◌, ◌^◌, ◌<◌, ◌≤◌, Bool, true, false, cond, ◌⊎◌, bit_xor, nat_lt, refl}
-use Rattle.std.proofs.Common.{sym, ap, ap₂, ◌∙◌, subst, subst₂, inl, inr, mod-lt, arith, lit<, lt-ltb, le-ltb, pow_pos}
+use Rattle.std.proofs.Common.{sym, ap, ap₂, ◌∙◌, subst, subst₂, inl, inr, mod-lt, arith, lt-ltb, le-ltb, pow_pos}
 use Rattle.std.proofs.Math.Nat.{mod-mod}
-use Rattle.std.proofs.lemmas.Nat.{xor_mod, xor_lt}
+use Rattle.std.proofs.lemmas.Nat.{xor_mod}
 use Rattle.std.proofs.Math.Pow.{field, mod-mod-pow}
 use Rattle.rings.specs.Laws.{Narrow, Laws, Invertible}
 use Rattle.rings.specs.Pairing.{lows, schoolbook, pair_mul, form, norm, by_norm, pair_inverse, pairing_bits, pairing_mul, pairing_norm, Decides, Normed}

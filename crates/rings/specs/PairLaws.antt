@@ -1,6 +1,6 @@
 -- The ring laws of the pairing over any ring. Assumes nothing.
-use Rattle.std.specs.Prelude.{◌≡◌, ℕ, zero, suc, ◌+◌, ◌*◌, ◌/◌, ◌%◌, ◌^◌, ◌<◌, ◌≤◌, bit_xor, refl}
-use Rattle.std.proofs.Common.{sym, ◌∙◌, subst, zero-add, mod-lt, zero-mul, lt_of_lt_of_le, le-add_right, arith, pow_pos, pow_mono, pow-add, shr_lt}
+use Rattle.std.specs.Prelude.{◌≡◌, ℕ, ◌+◌, ◌*◌, ◌/◌, ◌%◌, ◌^◌, ◌<◌, bit_xor}
+use Rattle.std.proofs.Common.{sym, ◌∙◌, subst, zero-add, mod-lt, zero-mul, lt_of_lt_of_le, le-add_right, pow_pos, pow_mono, pow-add, shr_lt}
 use Rattle.std.proofs.Math.Path.{ap, ap₂}
 use Rattle.std.proofs.Math.Nat.{mod-eq_of_lt, div-eq_of_lt}
 use Rattle.std.proofs.Math.Arith.{digits_lt}

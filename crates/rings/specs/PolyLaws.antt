@@ -1,7 +1,7 @@
 -- The ring laws of the product modulo any polynomial, at every width. Assumes nothing.
 use Rattle.std.specs.Prelude.{◌≡◌, ℕ, zero, suc, ◌+◌, ◌*◌, ◌/◌, ◌%◌, ◌^◌, ◌<◌, ◌≤◌, refl}
-use Rattle.std.proofs.Common.{sym, ap, ap₂, ◌∙◌, subst, add-zero, mod-lt, zero-lt-suc, div-lt_iff_lt-mul, div-add-mod', lt_of_le_of_lt, lt_of_lt_of_le, div-mul-le_self, one-mul, pow-suc, mod-eq_of_lt, le_trans, le_refl, pow_pos, pow_mono, arith}
-use Rattle.std.proofs.Math.Nat.{div-eq_of_lt, zero-mod, zero-div, le-suc, mul-div-mul_right}
+use Rattle.std.proofs.Common.{sym, ap, ap₂, ◌∙◌, subst, add-zero, mod-lt, zero-lt-suc, div-lt_iff_lt-mul, div-add-mod', lt_of_le_of_lt, lt_of_lt_of_le, div-mul-le_self, one-mul, pow-suc, le_trans, le_refl, pow_pos, pow_mono, arith}
+use Rattle.std.proofs.Math.Nat.{div-eq_of_lt, zero-div, le-suc, mul-div-mul_right}
 use Rattle.std.proofs.Math.Arith.{lt-one, digits_div, digits_mod}
 use Rattle.std.proofs.Math.Pow.{pow-lt}
 use Rattle.std.specs.Int.Bits.{bit_xor, xor_assoc, xor_self, xor_zero_r, xor_shifted}

@@ -3,10 +3,10 @@ use Rattle.std.proofs.Common.{◌≡◌, ℕ, ◌+◌, ◌<◌, ◌≤◌, List,
 use mathlib.Core.List.{map-append}
 use Rattle.std.proofs.lemmas.List.{take_more, take_all}
 use Rattle.watch.specs.Log.{Log}
-use Rattle.watch.specs.Runs.{World, Run}
+use Rattle.watch.specs.Runs.{World}
 use Rattle.sheets.specs.Contents.{Item}
 use Rattle.runs.specs.declared.line.Line.{Line}
-use Rattle.runs.specs.Printed.{Enters, Printed, Entered, Extended}
+use Rattle.runs.specs.Printed.{Printed, Entered, Extended}
 
 -- some entries, and then some more
 printed_join : (P : Log) (xs : List Item) (ls : List Line) (M : Log) (ys : List Item) (ks : List Line) (Q : Log) → Printed P xs ls M → Printed M ys ks Q → Printed P (xs ++ ys) (ls ++ ks) Q

@@ -1,9 +1,9 @@
 -- A sheet from its first entry, at two ends just made. Assumes nothing.
-use Rattle.std.proofs.Common.{◌≡◌, ℕ, ◌^◌, ◌<◌, true, List, [], ◌∷◌, ◌++◌, None, sym, refl, ap, ◌∙◌, subst, arith, lit<}
+use Rattle.std.proofs.Common.{◌≡◌, ◌^◌, ◌<◌, true, List, [], ◌++◌, None, sym, refl, ap, ◌∙◌, subst, arith, lit<}
 use Rattle.watch.specs.declared.side.Side.{Side}
 use Rattle.watch.specs.declared.side.Side.TheVariants.{First, Second}
-use Rattle.watch.specs.Log.{Log, none, same_side}
-use Rattle.watch.specs.Runs.{World, Begins, Run}
+use Rattle.watch.specs.Log.{none, same_side}
+use Rattle.watch.specs.Runs.{World, Begins}
 use Rattle.watch.specs.Shows.{EveryLogShows}
 use Rattle.sheets.specs.Contents.{Item, Contents, items}
 use Rattle.runs.specs.declared.line.Line.{Line}

@@ -8,7 +8,7 @@ use Rattle.ciphers.specs.declared.keys.Cipher.{Cipher}
 use Rattle.ciphers.specs.declared.keys.Cipher.TheVariants.{Aes, Sm4}
 use Rattle.ends.specs.declared.records.Answer.{Answer}
 use Rattle.ends.specs.declared.ticket.Ticket.{Ticket}
-use Rattle.ends.specs.Model.{Call, made}
+use Rattle.ends.specs.Model.{made}
 use Rattle.ends.specs.Model.Call.{fitting, keying, drawing, sealing, opening}
 use Rattle.watch.specs.declared.side.Side.{Side}
 use Rattle.watch.specs.declared.side.Side.TheVariants.{First, Second}
@@ -17,7 +17,6 @@ use Rattle.watch.specs.Runs.{World, Begins, Run}
 use Rattle.watch.specs.Shows.{Shows}
 use Rattle.sheets.specs.Contents.{Item, Contents, items}
 use Rattle.sheets.specs.Contents.Item.{fit_item, key_item, sector_item}
-use Rattle.sheets.specs.Sheets.{sheet_of}
 use Rattle.sheets.specs.declared.faults.Fault.{Fault}
 use Rattle.runs.specs.declared.line.Line.{Line}
 use Rattle.runs.specs.declared.line.Line.TheVariants.{Bad, Fit, Key, Sector}

@@ -98,7 +98,7 @@ mod tests {
         );
         assert!(rt;
             matches!(sheet.sectors[0].side, Side::First)
-                && sheet.sectors[0].bytes.as_slice() == [0x41, 0xfe]
+                && sheet.sectors[0].bytes.as_slice() == [0x41, 0xfe].as_slice()
         );
         Ok(())
     }

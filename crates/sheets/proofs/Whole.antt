@@ -1,5 +1,5 @@
 -- The words of a sheet as a whole, from its sections and the words after them. Assumes nothing.
-use Rattle.std.proofs.Common.{◌≡◌, ℕ, List, [], ◌∷◌, length, Ok, Err, Result, refl, ◌∙◌, arith}
+use Rattle.std.proofs.Common.{◌≡◌, ℕ, List, [], ◌∷◌, length, Ok, Err, refl, ◌∙◌, arith}
 use Rattle.sheets.specs.declared.faults.ReadError.{ReadError}
 use Rattle.sheets.specs.declared.faults.ReadError.TheVariants.{Bad, NoMemory}
 use Rattle.sheets.specs.Contents.{Contents, contents, Answered}

@@ -1,5 +1,5 @@
 -- The field of ring 13 in another basis: the bits 1 and 3 of each code are exchanged. Assumes nothing.
-use Rattle.std.specs.Prelude.{List, [], ◌∷◌, ℕ, get_or}
+use Rattle.std.specs.Prelude.{[], ◌∷◌, ℕ, get_or}
 use Rattle.rings.specs.Poly.{mul_mod}
 
 -- each code below 16 with its bits 1 and 3 exchanged

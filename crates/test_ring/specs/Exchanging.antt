@@ -1,15 +1,14 @@
 -- What the exchange of bits keeps, by tests over the codes, which antt computes. Assumes nothing.
-use Rattle.std.specs.Prelude.{◌≡◌, refl, Bool, true, false, ℕ, zero, suc, ◌%◌, ◌<◌, T, eqb, ltb}
-use Rattle.std.proofs.Common.{sym, subst, ◌∙◌, mod-eq_of_lt, arith, eqb→eq, ltb→lt, lit<}
+use Rattle.std.specs.Prelude.{◌≡◌, refl, Bool, ℕ, ◌%◌, ◌<◌, eqb, ltb}
+use Rattle.std.proofs.Common.{sym, subst, ◌∙◌, mod-eq_of_lt, eqb→eq, ltb→lt, lit<}
 use Rattle.std.proofs.Math.Path.{ap, ap₂}
-use Rattle.std.proofs.Math.Decide.{ℕ_discrete}
 use Rattle.std.specs.Int.Bits.{bit_xor}
 use Rattle.rings.specs.Laws.{Laws}
 use Rattle.rings.specs.Poly.{mul_mod}
 use Rattle.rings.proofs.Finite.{each, at}
 use Rattle.rings.specs.PolyLaws.{mul_mod_laws}
 use Rattle.test_ring.specs.Exchange.{exchange, exchanged_mul}
-use Rattle.test_ring.specs.Recoded.{Recodes, recoded_laws}
+use Rattle.test_ring.specs.Recoded.{recoded_laws}
 
 exchange_lt : (a : ℕ) → a < 16 → exchange a < 16
 exchange_lt a h = ltb→lt (exchange a) 16 (at 16 (λ a. ltb (exchange a) 16) tt a h)

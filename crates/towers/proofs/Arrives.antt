@@ -1,14 +1,13 @@
 -- The trail of a byte other than 0 by a pair that is kept comes to its inverse: the octic's ring is a field. Assumes nothing.
 use Rattle.std.proofs.Common.{◌≡◌, ℕ, zero, suc, ◌/◌, ◌^◌, ◌<◌, sym, refl, ap, ◌∙◌, subst, inl, inr, arith, lit<}
-use Rattle.rings.specs.Laws.{Laws, Field, Inverse, NoInverse}
-use Rattle.rings.specs.Pairing.{pair_mul}
+use Rattle.rings.specs.Laws.{Laws, Field, NoInverse}
 use Rattle.rings.specs.Poly.{mul_mod}
 use Rattle.rings.specs.PolyLaws.{mul_mod_laws}
 use Rattle.octics.specs.Octics.{Accepted}
 use Rattle.towers.specs.declared.pair.Pair.{Pair}
 use Rattle.towers.specs.Keeps.{Tells}
 use Rattle.towers.specs.Lawful.{Lawful, Reverse}
-use Rattle.towers.specs.Trails.{OrZero, Through, Arrives}
+use Rattle.towers.specs.Trails.{Through, Arrives}
 use Rattle.towers.proofs.Linear.{adds_zero}
 use Rattle.towers.proofs.Octics.{idempotents}
 use Rattle.towers.proofs.OneGoes.{one_goes}

@@ -1,5 +1,5 @@
 -- The box by a trail is the box by inversion. Assumes nothing.
-use Rattle.std.proofs.Common.{◌≡◌, ℕ, ◌/◌, ◌^◌, sym, refl, ap, ◌∙◌, inl, inr}
+use Rattle.std.proofs.Common.{◌≡◌, ℕ, ◌/◌, ◌^◌, sym, ap, ◌∙◌, inl, inr}
 use Rattle.rings.specs.Poly.{mul_mod}
 use Rattle.boxes.specs.Boxes.{inverse_mod}
 use Rattle.boxes.proofs.Inverses.{inverse_is, inverse_none}

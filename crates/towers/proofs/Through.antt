@@ -1,7 +1,7 @@
 -- The trail of a byte by a lawful pair comes to the inverse in the octic's ring. Assumes nothing.
-use Rattle.std.proofs.Common.{◌≡◌, ℕ, ◌/◌, ◌%◌, ◌^◌, ◌<◌, ◌⊎◌, sym, refl, ap, ◌∙◌, subst, inl, inr, ⊎_elim, arith, lit<}
+use Rattle.std.proofs.Common.{◌≡◌, ℕ, ◌/◌, ◌^◌, ◌<◌, sym, refl, ap, ◌∙◌, subst, inl, inr, lit<}
 use lib.Bits.{bit_xor, xor_lt}
-use Rattle.rings.specs.Laws.{Laws, Inverse, NoInverse}
+use Rattle.rings.specs.Laws.{Laws}
 use Rattle.rings.specs.Pairing.{pair_mul}
 use Rattle.rings.specs.Poly.{mul_mod}
 use Rattle.rings.specs.Commuting.{the_inverse}
@@ -11,7 +11,7 @@ use Rattle.towers.specs.declared.pair.Pair.{Pair}
 use Rattle.towers.specs.declared.trail.Trail.{Trail}
 use Rattle.towers.specs.Keeps.{Tells}
 use Rattle.towers.specs.Lawful.{Lawful, Reverse}
-use Rattle.towers.specs.Matrices.{apply, columns}
+use Rattle.towers.specs.Matrices.{apply}
 use Rattle.towers.specs.Trails.{OrZero, Trails, Through}
 use Rattle.towers.proofs.Linear.{Adds, adds_zero, by_columns}
 

@@ -1,5 +1,5 @@
 -- Eight calls of a watch, from what each promises. Assumes nothing.
-use Rattle.std.proofs.Common.{◌≡◌, ℕ, List, Ok, Err, Result, refl, subst, subst₂, inl, inr, arith}
+use Rattle.std.proofs.Common.{◌≡◌, ℕ, List, Ok, Err, Result, refl, subst, subst₂, inl, arith}
 use Rattle.ends.specs.declared.records.Answer.{Answer}
 use Rattle.refusals.specs.declared.Refusal.{Refusal}
 use Rattle.ends.specs.declared.ticket.Ticket.{Ticket}

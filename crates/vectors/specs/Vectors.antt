@@ -1,5 +1,5 @@
 -- The blocks and keys of published vectors, under the definitions. Assumes nothing.
-use Rattle.std.specs.Prelude.{List, [], ◌∷◌, ℕ, ◌+◌}
+use Rattle.std.specs.Prelude.{List, [], ◌∷◌, ℕ}
 use Rattle.boxes.specs.Boxes.{box_a, box_s}
 use Rattle.ciphers.specs.Aes.{key_expansion, cipher_a}
 use Rattle.ciphers.specs.Sm4.{schedule_s, cipher_s}

@@ -5,8 +5,8 @@ use Rattle.ends.specs.declared.ticket.Ticket.{Ticket}
 use Rattle.ends.specs.Model.{Sector, does, Each, ticket}
 use Rattle.ends.proofs.Laws.{seal_law}
 use Rattle.watch.specs.Log.{Entry, Log, none, ◌▷◌, block, blocks, uses, used, Among, NoneTwice, alike, taken, drawn, Unspent, Handed}
-use Rattle.watch.specs.Runs.{World, Goes, Run, Begins}
-use Rattle.watch.proofs.Blocks.{Short, Same, block_same}
+use Rattle.watch.specs.Runs.{World, Run, Begins}
+use Rattle.watch.proofs.Blocks.{Short, block_same}
 use Rattle.watch.proofs.Kept.{Kept, kept, same_self}
 
 -- ---- lists

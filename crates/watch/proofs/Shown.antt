@@ -1,20 +1,16 @@
 -- Every log of two ends shows what is promised. Assumes nothing.
-use Rattle.std.proofs.Common.{◌≡◌, ℕ, ◌≤◌, Bool, true, false, not, ◌&&◌, ◌⊎◌, is_some, Some, None, Ok, sym, refl, ap, ◌∙◌, subst, inl, inr, ⊎_elim, arith}
+use Rattle.std.proofs.Common.{◌≡◌, ℕ, ◌≤◌, true, is_some, Ok, sym, ap, ◌∙◌, subst, ⊎_elim, arith}
 use Rattle.std.proofs.lemmas.Bool.{not-false}
-use Rattle.ends.specs.declared.records.Answer.{Answer}
 use Rattle.ends.specs.declared.records.Told.{Told}
 use Rattle.ends.specs.Model.Call.{telling}
-use Rattle.ends.specs.Model.{Model}
-use Rattle.rings.specs.Poly.{mul_mod}
 use Rattle.towers.specs.declared.pair.Pair.{Pair}
 use Rattle.towers.specs.Keeps.{Keeps, Stands}
-use Rattle.towers.specs.Lawful.{Lawful, Reverse}
 use Rattle.towers.specs.Matrices.{both_ones}
 use Rattle.ends.proofs.Laws.{none_refused}
 use Rattle.watch.specs.declared.side.Side.{Side}
 use Rattle.watch.specs.Log.{Entry, entry, Log, none, ◌▷◌, Came, Handed}
 use Rattle.watch.specs.Runs.{World, Goes, Run, Begins, Logged}
-use Rattle.watch.specs.Shows.{Names, Shows, Onward, EveryLogShows, EachCallShows}
+use Rattle.watch.specs.Shows.{EveryLogShows, EachCallShows}
 use Rattle.watch.proofs.Fitted.{FitsShown, fits_on, FitBefore, fit_before_on}
 use Rattle.watch.proofs.Kept.{kept}
 use Rattle.watch.proofs.Once.{once}

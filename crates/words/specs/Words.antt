@@ -1,5 +1,5 @@
 -- Words of a text of bytes: the longest parts without a space or a newline, with their places. Assumes nothing.
-use Rattle.std.specs.Prelude.{◌≡◌, ℕ, ◌-◌, ◌<◌, ◌≤◌, ◌⊎◌, List, length, Some, None, Option, slice_index, slice_range}
+use Rattle.std.specs.Prelude.{◌≡◌, ℕ, ◌<◌, ◌≤◌, ◌⊎◌, List, length, Some, None, Option, slice_index, slice_range}
 use Rattle.words.specs.declared.Word.{Word}
 
 -- a space or a newline; nothing else parts words

@@ -1,4 +1,4 @@
-use Rattle.std.proofs.Common.{sym, arith}
+use Rattle.std.proofs.Common.{arith}
 use Rattle.trip.proofs.Trip.{ready, refused, opened}
 use Rattle.trip.proofs.round_trip.Goals as goal
 

@@ -1,4 +1,4 @@
-use Rattle.std.proofs.Common.{◌≡◌, ◌%◌, sym, arith}
+use Rattle.std.proofs.Common.{◌≡◌, ◌%◌, arith}
 use Rattle.boxes.proofs.Inverses.{inverse_is, inverse_none}
 use Rattle.boxes.proofs.direct.inverse.Goals as goal
 

@@ -1,4 +1,4 @@
-use Rattle.std.proofs.Common.{◌∙◌, arith}
+use Rattle.std.proofs.Common.{arith}
 use Rattle.ciphers.proofs.Doubling.{product_2}
 use Rattle.ciphers.proofs.aes.double.Goals as goal
 

@@ -1,7 +1,7 @@
 use Rattle.std.proofs.Common.{◌≡◌, length, drop, refl, ap, ◌∙◌, arith}
 use Rattle.std.proofs.lemmas.List.{take_at}
 use Rattle.ciphers.specs.Aes.{expanded}
-use Rattle.ciphers.proofs.Schedule.{Sofar, expanded_more, expanded_all, past_key}
+use Rattle.ciphers.proofs.Schedule.{expanded_more, expanded_all, past_key}
 use Rattle.ciphers.proofs.aes.expand.Goals as goal
 
 pub loop-n-init : goal.loop-n-init

@@ -1,4 +1,4 @@
-use Rattle.std.proofs.Common.{sym, refl, ap, ◌∙◌}
+use Rattle.std.proofs.Common.{refl}
 use Rattle.ciphers.specs.Aes.{power}
 use Rattle.ciphers.proofs.Schedule.{power_more}
 use Rattle.ciphers.proofs.aes.power_of_x.Goals as goal

@@ -1,4 +1,4 @@
-use Rattle.std.proofs.Common.{◌≡◌, sym, ◌∙◌, arith}
+use Rattle.std.proofs.Common.{◌≡◌, ◌∙◌, arith}
 use Rattle.ciphers.specs.Counter.{counter_block}
 use Rattle.ciphers.proofs.CounterBlocks.{counter_block_tells}
 use Rattle.ciphers.proofs.counter.counter_block.Goals as goal

@@ -1,4 +1,4 @@
-use Rattle.std.proofs.Common.{◌≡◌, ℕ, List, ap, ◌∙◌, arith}
+use Rattle.std.proofs.Common.{ℕ, List, ap, ◌∙◌, arith}
 use Rattle.ciphers.specs.Counter.{block_of}
 use Rattle.ciphers.specs.Keys.{cipher_of}
 use Rattle.ciphers.proofs.Padding.{start, more, done, pads_of}

@@ -1,4 +1,4 @@
-use Rattle.std.proofs.Common.{◌≡◌, ℕ, List, ◌++◌, take, drop, sym, ap, ◌∙◌}
+use Rattle.std.proofs.Common.{ℕ, List, ◌++◌, take, drop, sym, ap, ◌∙◌}
 use Rattle.ciphers.proofs.Schedule.{expansion_back}
 use Rattle.ciphers.proofs.keys.aes_bytes.Goals as goal
 

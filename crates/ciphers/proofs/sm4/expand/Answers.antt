@@ -1,4 +1,4 @@
-use Rattle.std.proofs.Common.{List, ap, ◌∙◌, subst, arith}
+use Rattle.std.proofs.Common.{ap, ◌∙◌, subst, arith}
 use Rattle.ciphers.specs.Sm4.{moved, linear_key}
 use Rattle.ciphers.proofs.Sm4Steps.{Sofar, keys_none, keys_more, keys_all, words_all}
 use Rattle.ciphers.proofs.sm4.expand.Goals as goal

@@ -1,4 +1,4 @@
-use Rattle.std.proofs.Common.{◌≡◌, ◌++◌, length, arith}
+use Rattle.std.proofs.Common.{◌++◌, arith}
 use Rattle.ends.proofs.Lists.{eight}
 use Rattle.ends.proofs.end.told_of.Goals as goal
 

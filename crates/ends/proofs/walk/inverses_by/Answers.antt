@@ -1,4 +1,4 @@
-use Rattle.std.proofs.Common.{◌≡◌, ◌<◌, ◌≢◌, length, sym, ◌∙◌, arith, length-set, get_or-set_other, get_or-set_same, below_more}
+use Rattle.std.proofs.Common.{◌<◌, ◌≢◌, length, sym, arith, length-set, get_or-set_other, get_or-set_same, below_more}
 use Rattle.boxes.specs.Boxes.{inverse_mod}
 use Rattle.ends.specs.Table.{inverses_mod}
 use Rattle.ends.proofs.Lists.{tabled}

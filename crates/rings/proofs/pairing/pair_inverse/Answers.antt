@@ -1,6 +1,6 @@
-use Rattle.std.proofs.Common.{◌≡◌, ℕ, ◌+◌, ◌%◌, ◌^◌, Some, None, sym, subst, mod-lt, mod-eq_of_lt, pow_pos}
-use Rattle.rings.specs.Laws.{Inverse, NoInverse, Inverts}
-use Rattle.rings.specs.Pairing.{norm, pair_mul, pair_inverse}
+use Rattle.std.proofs.Common.{◌≡◌, ℕ, ◌+◌, ◌%◌, ◌^◌, sym, subst, mod-lt, mod-eq_of_lt, pow_pos}
+use Rattle.rings.specs.Laws.{Inverse, NoInverse}
+use Rattle.rings.specs.Pairing.{pair_mul, pair_inverse}
 use Rattle.rings.specs.PairLaws.{norm_lt, pair_has_inverse, pair_no_inverse}
 use Rattle.rings.specs.PairCode.{pair_inverse_low, at_halved}
 use Rattle.rings.proofs.pairing.pair_inverse.Goals as goal

@@ -1,6 +1,6 @@
-use Rattle.std.proofs.Common.{◌≡◌, ℕ, ◌-◌, ◌/◌, ◌%◌, ◌^◌, ◌<◌, sym, ap, ◌∙◌, subst, ap₂, lt_of_lt_of_le, pow_mono, rules}
+use Rattle.std.proofs.Common.{◌≡◌, ℕ, ◌-◌, ◌/◌, ◌^◌, ◌<◌, sym, ap, ◌∙◌, subst, ap₂, lt_of_lt_of_le, pow_mono, rules}
 use lib.Bits.{bit_xor, xor_comm}
-use Rattle.rings.specs.Poly.{pick, times_x, act, mul_mod, Remainder}
+use Rattle.rings.specs.Poly.{times_x, act, mul_mod, Remainder}
 use Rattle.rings.proofs.Horner.{picked, skipped, act_next}
 use Rattle.rings.specs.PolyLaws.{act_lt, mul_mod_remainder}
 use Rattle.rings.proofs.poly.multiply.Goals as goal
