@@ -1,6 +1,6 @@
 /* The display's side of the link: opening a sealed sector.
  *
- * The function is in the static library libdisplay.a (rt staticlib display).
+ * The function is in the static library libdisplay.a (rt lib in crates/display).
  */
 #ifndef LINK_DISPLAY_H
 #define LINK_DISPLAY_H

@@ -6,6 +6,6 @@ cd "$(dirname "$0")/.."
 tools/need.sh gcc
 work=$(mktemp -d)
 trap 'rm -rf "$work"' EXIT
-rt staticlib display > "$work/log" || { cat "$work/log"; exit 1; }
-gcc -std=c99 -Wall -Wextra -Werror -pedantic -O2 -Ic -o "$work/bench" c/bench.c target/staticlib/libdisplay.a -lcrypto
+(cd crates/display && rt lib) > "$work/log" 2>&1 || { cat "$work/log"; exit 1; }
+gcc -std=c99 -Wall -Wextra -Werror -pedantic -O2 -Ic -o "$work/bench" c/bench.c crates/display/out/libdisplay.a -lcrypto
 "$work/bench"

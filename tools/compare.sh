@@ -1,19 +1,16 @@
 #!/bin/sh
 # Holds the program commission to tools/commission.py: both read the same sheets and must print the same bytes.
 # Every eighth sheet is also read from a pipe, seven bytes at a time.
-# Usage: tools/compare.sh [SEED [COUNT]], once the program is built (rt check commission).
+# Usage: tools/compare.sh [SEED [COUNT]]. The program is proved and built first, where that has not been done.
 set -eu
 cd "$(dirname "$0")/.."
 seed=${1:-1}
 count=${2:-400}
-program=target/bin/commission
+program=crates/commission/out/commission
 tools/need.sh python3
-if [ ! -x "$program" ]; then
-    echo "$program is not built"
-    exit 1
-fi
 work=$(mktemp -d)
 trap 'rm -rf "$work"' EXIT
+(cd crates/commission && rt run) > "$work/log" 2>&1 || { cat "$work/log"; exit 1; }
 mkdir "$work/wanted"
 
 tools/commission.py --self-test

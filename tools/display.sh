@@ -10,9 +10,9 @@ tools/need.sh gcc python3
 work=$(mktemp -d)
 trap 'rm -rf "$work"' EXIT
 
-rt staticlib display
+(cd crates/display && rt lib) > "$work/log" 2>&1 || { cat "$work/log"; exit 1; }
 for program in open_sector answers; do
-    gcc -std=c99 -Wall -Wextra -Werror -pedantic -O1 -Ic -o "$work/$program" "c/$program.c" target/staticlib/libdisplay.a
+    gcc -std=c99 -Wall -Wextra -Werror -pedantic -O1 -Ic -o "$work/$program" "c/$program.c" crates/display/out/libdisplay.a
 done
 "$work/open_sector"
 

@@ -5,8 +5,8 @@ set -u
 root=$(cd "$(dirname "$0")/.." && pwd)
 work=$(mktemp -d)
 trap 'rm -rf "$work"' EXIT
-cp -r "$root/crates" "$root/crates.txt" "$work/"
-if [ -d "$root/target" ]; then cp -r "$root/target" "$work/"; fi
+cp "$root/crates.txt" "$work/"
+(cd "$root" && tar cf - --exclude=out crates) | tar xf - -C "$work"
 mkdir -p "$work/crates/misuse/src"
 echo 'misuse: rings refusals ends' >> "$work/crates.txt"
 bad=0
@@ -17,7 +17,7 @@ misuse() {
         echo 'use rings::Ring;'
         echo "$3"
     } > "$work/crates/misuse/src/lib.rt"
-    if (cd "$work" && rt dev misuse 2>&1) | grep -q "error\[$2\]"; then
+    if (cd "$work/crates/misuse" && rt check 2>&1) | grep -q "error\[$2\]"; then
         echo "$1: refused by $2"
     else
         echo "$1: NOT REFUSED"
