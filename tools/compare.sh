@@ -1,7 +1,7 @@
 #!/bin/sh
 # Holds the program commission to tools/commission.py: both read the same sheets and must print the same bytes.
 # Every eighth sheet is also read from a pipe, seven bytes at a time.
-# Usage: tools/compare.sh [SEED [COUNT]]. The program is proved and built first, where that has not been done.
+# Usage: tools/compare.sh [SEED [COUNT]]. It takes the program that rt ci or rt run left, and proves and builds it where there is none.
 set -eu
 cd "$(dirname "$0")/.."
 seed=${1:-1}
@@ -10,7 +10,9 @@ program=crates/commission/out/commission
 tools/need.sh python3
 work=$(mktemp -d)
 trap 'rm -rf "$work"' EXIT
-(cd crates/commission && rt run) > "$work/log" 2>&1 || { cat "$work/log"; exit 1; }
+if [ ! -x "$program" ]; then
+    (cd crates/commission && rt run) > "$work/log" 2>&1 || { cat "$work/log"; exit 1; }
+fi
 mkdir "$work/wanted"
 
 tools/commission.py --self-test

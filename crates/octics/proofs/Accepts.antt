@@ -1,6 +1,6 @@
 -- An octic that leaves a rest at every divisor of degree 1 to 4 is accepted: a test that antt computes. So 11B and 1F5 are.
 -- Assumes nothing.
-use Rattle.std.proofs.Common.{◌≡◌, ℕ, ◌+◌, ◌-◌, ◌^◌, ◌<◌, ◌≤◌, Bool, T, ltb, sym, ap, ◌∙◌, subst, arith, lit<, lit≤, ltb→lt, pow-add}
+use Rattle.std.proofs.Common.{◌≡◌, ℕ, ◌+◌, ◌-◌, ◌^◌, ◌<◌, ◌≤◌, Bool, true, T, ltb, refl, sym, ap, ◌∙◌, subst, arith, lit<, lit≤, ltb→lt, pow-add}
 use native.Mathlib.Decide.{dec_lt}
 use Rattle.octics.specs.Division.{remainder, Degree}
 use Rattle.octics.specs.Octics.{Divides, Accepted}
@@ -33,8 +33,8 @@ some_rest o k d t g =
     let e : 2 ^ k + (d - 2 ^ k) ≡ d = omega (arith, g.from) in
     subst (λ (x : ℕ). 0 < remainder k x o) e (ltb→lt _ _ (at (2 ^ k) (λ i. ltb 0 (remainder k (2 ^ k + i) o)) t (d - 2 ^ k) j))
 
-pub accepts : (o : ℕ) → 256 ≤ o → o < 512 → T (all_rest o) → Accepted o
-accepts o least most t = record { least = least; most = most; whole = whole }
+tested : (o : ℕ) → 256 ≤ o → o < 512 → T (all_rest o) → Accepted o
+tested o least most t = record { least = least; most = most; whole = whole }
   where
     whole : (d : ℕ) → 2 ≤ d → d < 32 → Divides d o → ⊥
     whole d h l v =
@@ -45,10 +45,13 @@ accepts o least most t = record { least = least; most = most; whole = whole }
         ap (remainder (k + 1) d) (sym v.1) ∙ leaves (k + 1) d v.0 g.2 (subst (λ (x : ℕ). x < 512) (sym v.1) most) in
         omega arith
 
+pub accepts : (o : ℕ) → 256 ≤ o → o < 512 → all_rest o ≡ true → Accepted o
+accepts o least most e = tested o least most (subst T (sym e) tt)
+
 pub accepted_11b : Accepted 0x11b
 unfolding remainder
-accepted_11b = accepts 0x11b (lit≤ tt) (lit< tt) tt
+accepted_11b = accepts 0x11b (lit≤ tt) (lit< tt) refl
 
 pub accepted_1f5 : Accepted 0x1f5
 unfolding remainder
-accepted_1f5 = accepts 0x1f5 (lit≤ tt) (lit< tt) tt
+accepted_1f5 = accepts 0x1f5 (lit≤ tt) (lit< tt) refl

@@ -7,4 +7,4 @@ pub mod PairCode
 pub mod PairLaws
 pub mod Commuting
 pub mod PolyLaws
-pub mod QuarticRingLemmas
+pub mod QuarticDegrees

@@ -1,7 +1,7 @@
 // The pairing over a ring: a code holds r1 in its high half and r0 in its low half, and means r1 Y + r0, where Y Y = Y + c.
 ghost use Rattle.std.specs.Prelude.{◌≡◌, ℕ, ◌+◌, ◌*◌, ◌/◌, ◌%◌, ◌^◌, ◌<◌, ◌≤◌};
 ghost use Rattle.rings.specs.Laws.{Inverts};
-ghost use Rattle.rings.specs.Pairing.{lows, schoolbook, form, by_norm, norm as norm-of, pairing_bits, pairing_mul, Normed};
+ghost use Rattle.rings.specs.Pairing.{lows, schoolbook, form, by_norm, norm as norm_of, pairing_bits, pairing_mul, Normed};
 ghost use Rattle.rings.specs.PairCode.{pairing_laws};
 ghost use Rattle.std.proofs.Common.{rules};
 
@@ -82,7 +82,7 @@ fn own_inverse<R: Ring>(ring: &R, constant: u8, a: u8) -> Option<u8>
 // The norm, the product and the inverse where the ring below has width 2 or 4. The ring below reads only the low bits.
 fn pair_norm<R: Ring>(ring: &R, constant: u8, a: u8) -> u8
     requires { R.Ring.bits < 8 }
-    ensures halves { result ≡ norm-of R.Ring.bits (R.Ring.mul ring.now) constant (a % 2 ^ (R.Ring.bits + R.Ring.bits)) }
+    ensures halves { result ≡ norm_of R.Ring.bits (R.Ring.mul ring.now) constant (a % 2 ^ (R.Ring.bits + R.Ring.bits)) }
     ensures normed { Normed R.Ring.bits 1 (R.Ring.mul ring.now) constant (a % 2 ^ pairing_bits R.Ring.bits) result }
 {
     norm_form(ring, constant, a)

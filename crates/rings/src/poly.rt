@@ -4,7 +4,7 @@ ghost use Rattle.rings.specs.Poly.{times_x, mul_mod, Remainder};
 ghost use Rattle.rings.specs.Moduli.{modulus_of};
 ghost use Rattle.std.proofs.Common.{lit<, rules, arith};
 ghost use Rattle.rings.specs.PolyLaws.{mul_mod_laws};
-ghost use Rattle.rings.specs.QuarticRingLemmas.{of_degree};
+ghost use Rattle.rings.specs.QuarticDegrees.{of_degree};
 
 use crate::Ring;
 

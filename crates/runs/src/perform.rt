@@ -4,7 +4,7 @@ ghost use Rattle.watch.specs.Watched.{kind, world};
 ghost use Rattle.sheets.specs.Contents.{Item, fit_of, key_of, sector_of};
 ghost use Rattle.sheets.specs.Contents.Item.{sector_item};
 ghost use Rattle.runs.specs.declared.line.Line.TheVariants.{Sector};
-ghost use Rattle.runs.specs.Printed.{Entered, letter_for, other as other-of};
+ghost use Rattle.runs.specs.Printed.{Entered, letter_for, other as other_of};
 
 use crate::bearing::bearing;
 use crate::line::{Line, Passed};
@@ -40,7 +40,7 @@ fn letter(cipher: Cipher) -> char
 
 // The end across the link.
 fn other(side: Side) -> Side
-    ensures { result ≡ other-of side }
+    ensures { result ≡ other_of side }
 {
     match side {
         Side::First => Side::Second,

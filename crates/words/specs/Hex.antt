@@ -3,7 +3,7 @@ use Rattle.std.specs.Prelude.{ℕ, ◌+◌, ◌-◌, ◌*◌, cond, List, [], �
 
 -- b lies from a to z
 abbrev within : ℕ → ℕ → ℕ → Option ℕ → Option ℕ → Option ℕ
-within a z b yes-part no_part = cond (nat_le a b) (cond (nat_le b z) yes-part no_part) no_part
+within a z b yes_part no_part = cond (nat_le a b) (cond (nat_le b z) yes_part no_part) no_part
 
 -- the value of a digit: 0 to 9 from 48 on, A to F from 65 on
 abbrev pub hex_value : ℕ → Option ℕ

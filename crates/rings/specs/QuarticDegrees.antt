@@ -1,3 +1,4 @@
+-- The moduli of the rings of width 4 are of degree 4. Assumes nothing.
 use Rattle.std.specs.Prelude.{◌≡◌, ◌/◌, refl}
 use Rattle.rings.specs.Moduli.{modulus_of}
 use Rattle.rings.specs.declared.poly.Quartic.{Quartic}
