@@ -11,7 +11,7 @@ tools/need.sh python3
 work=$(mktemp -d)
 trap 'rm -rf "$work"' EXIT
 if [ ! -x "$program" ]; then
-    (cd crates/commission && rt run) > "$work/log" 2>&1 || { cat "$work/log"; exit 1; }
+    (cd crates/commission && rt run < stdin) > "$work/log" 2>&1 || { cat "$work/log"; exit 1; }
 fi
 mkdir "$work/wanted"
 

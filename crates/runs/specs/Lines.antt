@@ -2,7 +2,7 @@
 use Rattle.std.specs.Prelude.{ℕ, Bool, true, false, List, [], ◌∷◌, ◌++◌, Some, None, Ok, Err, codes, decimal, Option}
 use Rattle.refusals.specs.Numbers.{number_of}
 use Rattle.refusals.specs.declared.Refusal.{Refusal}
-use Rattle.sheets.specs.Numbers.{number_of as sheet-number-of}
+use Rattle.sheets.specs.Numbers.{number_of as sheet_number_of}
 use Rattle.watch.specs.declared.side.Side.{Side}
 use Rattle.watch.specs.declared.side.Side.TheVariants.{First, Second}
 use Rattle.runs.specs.declared.line.Line.{Line}
@@ -30,7 +30,7 @@ spaced f (x ∷ xs) = f ++ (32 ∷ spaced x xs)
 
 -- E, the refusal and the place; or F, K or S, the end and 0 or the refusal, and after an accepted sector its number, its bearing and Y or N
 abbrev pub text_of : Line → List ℕ
-text_of (Bad f) = spaced (codes "E") (decimal (sheet-number-of f.refusal) ∷ decimal f.place ∷ [])
+text_of (Bad f) = spaced (codes "E") (decimal (sheet_number_of f.refusal) ∷ decimal f.place ∷ [])
 text_of (Fit s r) = spaced (codes "F") (letter_of s ∷ decimal (answer_of r) ∷ [])
 text_of (Key s r) = spaced (codes "K") (letter_of s ∷ decimal (answer_of r) ∷ [])
 text_of (Sector s (Ok p)) = spaced (codes "S") (letter_of s ∷ codes "0" ∷ decimal p.number ∷ decimal p.bearing ∷ mark_of p.same ∷ [])
