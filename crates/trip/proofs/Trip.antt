@@ -45,11 +45,14 @@ refused {w = w} {v = v} {t = t} {first = first} {after = after} {r = r} {e = e} 
     let l = (subst (λ x. Onward w (entry First (sealing t first after x)) v) is seal).logged at.log at.logged at.unspent in
     l.run.3.steps.answers.1
 
--- a seal that is accepted, and the open after it
-pub opened : {w v u : World} {t : Ticket} {first sealed out : List ℕ} {n m : ℕ} {r q : Result (Unit {0}) Refusal} → Ready w t → Onward w (entry First (sealing t first sealed r)) v → r ≡ Ok tt → Onward v (entry Second (opening n m sealed out q)) u → n ≡ t.name → m ≡ t.number → out ≡ first
-opened {v = v} {u = u} {t = t} {first = first} {sealed = sealed} {out = out} {r = r} {q = q} at seal is open' name number =
+-- a seal that is accepted, and the open after it, which is accepted too
+pub opened_all : {w v u : World} {t : Ticket} {first sealed out : List ℕ} {n m : ℕ} {r q : Result (Unit {0}) Refusal} → Ready w t → Onward w (entry First (sealing t first sealed r)) v → r ≡ Ok tt → Onward v (entry Second (opening n m sealed out q)) u → n ≡ t.name → m ≡ t.number → (q ≡ Ok tt) × (out ≡ first)
+opened_all {v = v} {u = u} {t = t} {first = first} {sealed = sealed} {out = out} {r = r} {q = q} at seal is open' name number =
     let P : Log = at.log in
     let l = (known First (sealing t first sealed) r tt is seal).logged P at.logged at.unspent in
     let Q : Log = P ▷ entry First (sealing t first sealed (Ok tt)) in
     let last = subst₂ (λ x y. Onward v (entry Second (opening x y sealed out q)) u) name number open' in
-    ((last.shown Q l tt).opens First Second t first sealed out q P Q (inl (refl, refl)) (inl (refl, refl)) at.alike).1
+    (last.shown Q l tt).opens First Second t first sealed out q P Q (inl (refl, refl)) (inl (refl, refl)) at.alike
+
+pub opened : {w v u : World} {t : Ticket} {first sealed out : List ℕ} {n m : ℕ} {r q : Result (Unit {0}) Refusal} → Ready w t → Onward w (entry First (sealing t first sealed r)) v → r ≡ Ok tt → Onward v (entry Second (opening n m sealed out q)) u → n ≡ t.name → m ≡ t.number → out ≡ first
+opened at seal is open' name number = (opened_all at seal is open' name number).1

@@ -2,13 +2,15 @@
 #![tactic(auto)]
 
 ghost use Rattle.std.specs.Prelude.{◌≡◌};
+ghost use Rattle.trip.specs.Trips.{Trips, over};
 
 use refusals::Refusal;
 use rings::Ring;
 use watch::side::Side;
 use watch::two::Watch;
 
-// Fits and keys two ends alike, seals the bytes at the first and opens them at the second: they come back in any case.
+// Fits and keys two ends alike, seals the bytes at the first and opens them at the second: they come back in any case, and the answer
+// is the first refusal of the calls, if one is refused.
 pub fn round_trip<X: Ring + Drop, Y: Ring + Drop>(
     x: X,
     y: Y,
@@ -18,7 +20,8 @@ pub fn round_trip<X: Ring + Drop, Y: Ring + Drop>(
     work: &mut [u8],
     bytes: &mut [u8],
 ) -> Result<(), Refusal>
-    ensures { bytes.new ≡ bytes.old }
+    ensures back { bytes.new ≡ bytes.old }
+    ensures answer { Trips (over X.Ring.bits (X.Ring.mul x)) (over Y.Ring.bits (Y.Ring.mul y)) octic letter key.now work.old bytes.old result work.new }
 {
     let mut w = Watch::new(x, 1, 0, y, 2, 0);
     w.fit(Side::First, octic)?;
