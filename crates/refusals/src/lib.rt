@@ -1,8 +1,9 @@
 // The refusals, each with its number.
 #![tactic(auto)]
 
-ghost use Rattle.std.specs.Prelude.{◌≡◌};
+ghost use Rattle.std.specs.Prelude.{◌≡◌, Some};
 ghost use Rattle.refusals.specs.Numbers.{number_of};
+ghost use Rattle.refusals.specs.Sentences.{sentence_of};
 
 use std::fmt;
 
@@ -45,22 +46,29 @@ impl Refusal {
 }
 
 // A sentence for the reader of a report.
+fn sentence(refusal: Refusal) -> &'static str
+    ensures { result.now ≡ sentence_of refusal }
+{
+    match refusal {
+        Refusal::NotField => "the ring is no field of width 4",
+        Refusal::NotOctic => "the octic lies outside 256 to 511",
+        Refusal::Divisible => "the octic has a divisor of degree 1 to 4",
+        Refusal::NoFit => "the end has no fit",
+        Refusal::UnknownLetter => "the letter is neither A nor S",
+        Refusal::OtherOctic => "the fitted octic is not the letter's",
+        Refusal::KeyLength => "the key has not 16 bytes",
+        Refusal::SmallWork => "the work area has under 176 bytes",
+        Refusal::NoKey => "the end has no key",
+        Refusal::OtherName => "the ticket bears another name",
+        Refusal::SectorLength => "the sector has 0 bytes or more than 4096",
+        Refusal::NumbersUsedUp => "the next number is the largest of 64 bits",
+    }
+}
+
 impl fmt::Display for Refusal {
+    ghost output = { λ r. Some (sentence_of r) };
+
     fn fmt<W: fmt::Write>(&self, f: &mut fmt::Formatter<W>) -> fmt::Result {
-        let text = match self {
-            Refusal::NotField => "the ring is no field of width 4",
-            Refusal::NotOctic => "the octic lies outside 256 to 511",
-            Refusal::Divisible => "the octic has a divisor of degree 1 to 4",
-            Refusal::NoFit => "the end has no fit",
-            Refusal::UnknownLetter => "the letter is neither A nor S",
-            Refusal::OtherOctic => "the fitted octic is not the letter's",
-            Refusal::KeyLength => "the key has not 16 bytes",
-            Refusal::SmallWork => "the work area has under 176 bytes",
-            Refusal::NoKey => "the end has no key",
-            Refusal::OtherName => "the ticket bears another name",
-            Refusal::SectorLength => "the sector has 0 bytes or more than 4096",
-            Refusal::NumbersUsedUp => "the next number is the largest of 64 bits",
-        };
-        f.write_str(text)
+        f.write_str(sentence(*self))
     }
 }
