@@ -1,9 +1,9 @@
 // Reads the words of a text of bytes: each word is a part of the text, with its place.
 #![tactic(auto)]
 
-ghost use Rattle.std.specs.Prelude.{◌≡◌, ◌<◌, ◌≤◌, T, length, slice_index};
-ghost use Rattle.words.specs.Words.{Blank, Blanks, NoBlanks, Next};
-ghost use Rattle.words.specs.Hex.{hex_value, hex_byte};
+ghost use Rattle.std.specs.Prelude.{◌≡◌, ℕ, ◌^◌, ◌<◌, ◌≤◌, T, true, false, length, slice_index, IfSome};
+ghost use Rattle.words.specs.Words.{Blank, Next};
+ghost use Rattle.words.specs.Hex.{hex_value, hex_number, hex_byte, hex_triple};
 
 pub mod reader;
 pub mod shown;
@@ -28,18 +28,34 @@ pub fn hex_value(b: u8) -> Option<u8>
     }
 }
 
+// The number that a word of so many hexadecimal digits stands for.
+pub fn hex_number<const DIGITS: usize>(part: &[u8]) -> Option<u128>
+    requires { DIGITS ≤ 32 }
+    ensures value { result ≡ hex_number DIGITS part.now }
+    ensures short { IfSome result (λ n. n < 16 ^ DIGITS) }
+{
+    if part.len() != DIGITS {
+        return None;
+    }
+    let mut value = 0;
+    for b in part {
+        value = value * 16 + u128::from(hex_value(*b)?);
+    }
+    Some(value)
+}
+
 // The byte that a word of two hexadecimal digits stands for.
 pub fn hex_byte(part: &[u8]) -> Option<u8>
     ensures { result ≡ hex_byte part.now }
 {
-    match part {
-        [a, b] => {
-            let high = hex_value(*a)?;
-            let low = hex_value(*b)?;
-            Some(high * 16 + low)
-        }
-        _ => None,
-    }
+    hex_number::<2>(part).map(|n| n as u8)
+}
+
+// The number that a word of three hexadecimal digits stands for.
+pub fn hex_triple(part: &[u8]) -> Option<u16>
+    ensures { result ≡ hex_triple part.now }
+{
+    hex_number::<3>(part).map(|n| n as u16)
 }
 
 fn blank(b: u8) -> bool
@@ -66,8 +82,8 @@ impl<'a> Reader<'a> {
         ensures kept { self.new.text.now ≡ self.old.text.now }
     {
         let text = self.text;
-        let place = blanks(text, self.at);
-        let end = letters(text, place);
+        let place = first(text, self.at, |b| !blank(b));
+        let end = first(text, place, blank);
         self.at = end;
         if place == end {
             return None;
@@ -79,30 +95,15 @@ impl<'a> Reader<'a> {
     }
 }
 
-// The first index from `at` on that holds no blank, or the text's length.
-fn blanks(text: &[u8], at: usize) -> usize
-    requires { at ≤ length text.now }
+// The first index from `at` on whose byte passes, or the text's length.
+fn first<P: Fn(u8) -> bool>(text: &[u8], at: usize, passes: P) -> usize
+    requires inside { at ≤ length text.now }
+    requires callable { P.IsAlwaysCallable passes }
     ensures within { (at ≤ result) × (result ≤ length text.now) }
-    ensures all { Blanks text.now at result }
-    ensures stops { result < length text.now → Blank (slice_index text.now result) → ⊥ }
+    ensures before { (k : ℕ) → at ≤ k → k < result → P.post passes (slice_index text.now k) false }
+    ensures stops { result < length text.now → P.post passes (slice_index text.now result) true }
 {
-    let mut i = at;
-    while i < text.len() && blank(text[i]) {
-        i += 1;
-    }
-    i
-}
-
-// The first index from `at` on that holds a blank, or the text's length.
-fn letters(text: &[u8], at: usize) -> usize
-    requires { at ≤ length text.now }
-    ensures within { (at ≤ result) × (result ≤ length text.now) }
-    ensures none { NoBlanks text.now at result }
-    ensures stops { result < length text.now → Blank (slice_index text.now result) }
-{
-    let mut i = at;
-    while i < text.len() && !blank(text[i]) {
-        i += 1;
-    }
-    i
+    let rest = &text[at..];
+    let count = rest.iter().position(|b| passes(*b));
+    at + count.unwrap_or(rest.len())
 }
