@@ -4,4 +4,5 @@
 mod aes;
 pub mod counter;
 pub mod keys;
+pub mod letters;
 mod sm4;
