@@ -1,6 +1,6 @@
 -- What a word stands for where a count, a letter or digits are due. Assumes nothing.
 use Rattle.std.specs.Prelude.{ℕ, ◌+◌, ◌-◌, ◌*◌, cond, List, [], ◌∷◌, length, Some, None, Option, ◌==◌, nat_le}
-use Rattle.words.specs.Hex.{hex_value, two_digits}
+use Rattle.words.specs.Hex.{hex_value, two_digits, hex_triple}
 use Rattle.ciphers.specs.declared.keys.Cipher.{Cipher}
 use Rattle.ciphers.specs.declared.keys.Cipher.TheVariants.{Aes, Sm4}
 use Rattle.watch.specs.declared.side.Side.{Side}
@@ -46,20 +46,9 @@ side_of bs = by (letter_of bs) (λ b. cond (b == 72) (Some First) (cond (b == 68
 abbrev pub cipher_of : List ℕ → Option Cipher
 cipher_of bs = by (letter_of bs) (λ b. cond (b == 65) (Some Aes) (cond (b == 83) (Some Sm4) None))
 
--- 256 times the first, 16 times the second, and the third
-abbrev pub three_digits : Option ℕ → Option ℕ → Option ℕ → Option ℕ
-three_digits None b c = None
-three_digits (Some a) None c = None
-three_digits (Some a) (Some b) None = None
-three_digits (Some a) (Some b) (Some c) = Some (a * 256 + b * 16 + c)
-
 -- an octic: three hexadecimal digits
 abbrev pub octic_of : List ℕ → Option ℕ
-octic_of [] = None
-octic_of (a ∷ []) = None
-octic_of (a ∷ b ∷ []) = None
-octic_of (a ∷ b ∷ c ∷ []) = three_digits (hex_value a) (hex_value b) (hex_value c)
-octic_of (a ∷ b ∷ c ∷ d ∷ ds) = None
+octic_of = hex_triple
 
 -- a byte in front of others
 abbrev pub in_front : Option ℕ → Option (List ℕ) → Option (List ℕ)

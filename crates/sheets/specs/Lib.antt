@@ -5,3 +5,4 @@ pub mod Forms
 pub mod Readings
 pub mod Sheets
 pub mod Steps
+pub mod Shapes

@@ -1,10 +1,10 @@
-// Words of digits: counts, octics, keys and sectors.
+// Words of digits: counts, keys and sectors.
 ghost use Rattle.std.specs.Prelude.{◌≡◌, ◌*◌, length};
-ghost use Rattle.sheets.specs.Forms.{decimal, one_or_two, count_of, octic_of, key_bytes, sector_bytes};
+ghost use Rattle.sheets.specs.Forms.{decimal, one_or_two, count_of, key_bytes, sector_bytes};
 ghost use Rattle.sheets.specs.Steps.{Decoded, Held};
 
 use std::alloc::{AllocError, Global};
-use words::{hex_byte, hex_value};
+use words::hex_byte;
 
 // The value of a decimal digit.
 fn decimal_value(b: u8) -> Option<u8>
@@ -39,28 +39,13 @@ pub(crate) fn count_value(part: &[u8]) -> Option<u8>
     if value <= 64 { Some(value) } else { None }
 }
 
-// An octic: three digits.
-pub(crate) fn octic_value(part: &[u8]) -> Option<u16>
-    ensures { result ≡ octic_of part.now }
-{
-    match part {
-        [a, b, c] => {
-            let high = hex_value(*a)?;
-            let middle = hex_value(*b)?;
-            let low = hex_value(*c)?;
-            Some(high as u16 * 256 + middle as u16 * 16 + low as u16)
-        }
-        _ => None,
-    }
-}
-
 // Writes the bytes of the digits, two digits to a byte, or stops at a byte that is no digit.
 fn decode(digits: &[u8], bytes: &mut [u8]) -> Option<()>
     requires { length digits.now ≡ 2 * length bytes.old }
     ensures { Decoded digits.now result bytes.new }
 {
-    for i in 0..bytes.len() {
-        bytes[i] = hex_byte(&digits[2 * i..2 * i + 2])?;
+    for (i, byte) in bytes.iter_mut().enumerate() {
+        *byte = hex_byte(&digits[2 * i..2 * i + 2])?;
     }
     Some(())
 }

@@ -8,9 +8,9 @@ use std::alloc::{AllocError, AllocFailed};
 // The refusals of a sheet.
 #[derive(Clone, Copy, PartialEq, Eq, Debug)]
 pub enum SheetRefusal {
-    TooLong,
-    BadWord,
-    WordAfter,
+    TooLong = 13,
+    BadWord = 14,
+    WordAfter = 15,
 }
 
 impl SheetRefusal {
@@ -18,11 +18,7 @@ impl SheetRefusal {
     pub fn number(self) -> u8
         ensures { result ≡ number_of self }
     {
-        match self {
-            SheetRefusal::TooLong => 13,
-            SheetRefusal::BadWord => 14,
-            SheetRefusal::WordAfter => 15,
-        }
+        self as u8
     }
 }
 

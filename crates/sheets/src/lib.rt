@@ -9,3 +9,4 @@ mod sections;
 mod sheet_reader;
 mod steps;
 mod tokens;
+mod values;

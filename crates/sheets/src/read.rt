@@ -31,19 +31,19 @@ pub fn read_sheet(heap: Global, sheet: &[u8]) -> Result<Sheet, ReadError>
 fn read_words(heap: Global, sheet: &[u8]) -> Result<Sheet, ReadError>
     ensures { Answered (words_hold sheet.now) result }
 {
-    let mut reader = start(sheet);
-    let entries = read_sections(heap, &mut reader)?;
+    let mut reader = start(heap, sheet);
+    let entries = read_sections(&mut reader)?;
     nothing_after(&mut reader)?;
     Ok(entries)
 }
 
 // The three sections.
-fn read_sections(heap: Global, reader: &mut SheetReader) -> Result<Sheet, ReadError>
+fn read_sections(reader: &mut SheetReader) -> Result<Sheet, ReadError>
     ensures { Step contents sections reader.old result reader.new }
 {
-    let fits = section_of(heap, reader)?;
-    let keys = section_of(heap, reader)?;
-    let sectors = section_of(heap, reader)?;
+    let fits = section_of(reader)?;
+    let keys = section_of(reader)?;
+    let sectors = section_of(reader)?;
     Ok(Sheet {
         fits,
         keys,

@@ -9,7 +9,6 @@ ghost use Rattle.sheets.specs.Steps.{listed, Step};
 use crate::entries::{FitEntry, KeyEntry, SectorEntry};
 use crate::faults::ReadError;
 use crate::sheet_reader::SheetReader;
-use std::alloc::Global;
 
 // A kind of entry: `item` is an entry as a plain value, and `form` how one is read from a list of words.
 pub(crate) trait Entry: Sized {
@@ -17,7 +16,7 @@ pub(crate) trait Entry: Sized {
 
     ghost form: { ℕ → List Spot → Reading Item };
 
-    fn read(heap: Global, reader: &mut SheetReader) -> Result<Self, ReadError>
+    fn read(reader: &mut SheetReader) -> Result<Self, ReadError>
         ensures { Step item form reader.old result reader.new };
 }
 
@@ -26,9 +25,9 @@ impl Entry for FitEntry {
 
     ghost form = { fit_read };
 
-    fn read(_heap: Global, reader: &mut SheetReader) -> Result<FitEntry, ReadError> {
-        let side = reader.side()?;
-        let octic = reader.octic()?;
+    fn read(reader: &mut SheetReader) -> Result<FitEntry, ReadError> {
+        let side = reader.value()?;
+        let octic = reader.value()?;
         Ok(FitEntry { side, octic })
     }
 }
@@ -38,10 +37,10 @@ impl Entry for KeyEntry {
 
     ghost form = { key_read };
 
-    fn read(_heap: Global, reader: &mut SheetReader) -> Result<KeyEntry, ReadError> {
-        let side = reader.side()?;
-        let cipher = reader.cipher()?;
-        let key = reader.key()?;
+    fn read(reader: &mut SheetReader) -> Result<KeyEntry, ReadError> {
+        let side = reader.value()?;
+        let cipher = reader.value()?;
+        let key = reader.value()?;
         Ok(KeyEntry { side, cipher, key })
     }
 }
@@ -51,35 +50,28 @@ impl Entry for SectorEntry {
 
     ghost form = { sector_read };
 
-    fn read(heap: Global, reader: &mut SheetReader) -> Result<SectorEntry, ReadError> {
-        let side = reader.side()?;
-        let bytes = reader.sector(heap)?;
+    fn read(reader: &mut SheetReader) -> Result<SectorEntry, ReadError> {
+        let side = reader.value()?;
+        let bytes = reader.value()?;
         Ok(SectorEntry { side, bytes })
     }
 }
 
 // Entries of one kind, `count` of them.
-fn entries_of<E: Entry + Drop>(
-    heap: Global,
-    reader: &mut SheetReader,
-    count: u8,
-) -> Result<Vec<E>, ReadError>
+fn entries_of<E: Entry + Drop>(reader: &mut SheetReader, count: u8) -> Result<Vec<E>, ReadError>
     ensures { Step (listed E.Entry.item) (λ end. times count (E.Entry.form end)) reader.old result reader.new }
 {
-    let mut entries = Vec::new(heap);
+    let mut entries = Vec::new(reader.heap);
     for _ in 0..count {
-        entries.push(E::read(heap, reader)?)?;
+        entries.push(E::read(reader)?)?;
     }
     Ok(entries)
 }
 
 // A section of any kind of entry.
-pub(crate) fn section_of<E: Entry + Drop>(
-    heap: Global,
-    reader: &mut SheetReader,
-) -> Result<Vec<E>, ReadError>
+pub(crate) fn section_of<E: Entry + Drop>(reader: &mut SheetReader) -> Result<Vec<E>, ReadError>
     ensures { Step (listed E.Entry.item) (section E.Entry.form) reader.old result reader.new }
 {
-    let count = reader.count()?;
-    entries_of(heap, reader, count)
+    let count = reader.value()?;
+    entries_of(reader, count)
 }

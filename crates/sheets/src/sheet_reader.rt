@@ -1,11 +1,13 @@
-// The reader of a sheet: the sheet's words, and the place of its end.
+// The reader of a sheet: the sheet's words, the place of its end, and where the entries' memory comes from.
 ghost use Rattle.std.specs.Prelude.{◌≡◌, length};
 
+use std::alloc::Global;
 use words::reader::Reader;
 
 #[derive(Drop)]
 pub(crate) struct SheetReader<'a> {
     pub(crate) words: Reader<'a>,
     pub(crate) end: usize,
+    pub(crate) heap: Global,
     ghost whole: { end ≡ length words.text.now },
 }

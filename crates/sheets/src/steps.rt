@@ -1,6 +1,5 @@
 // The steps of reading a sheet: a word, a token, and what a token stands for.
-ghost use Rattle.std.specs.Prelude.{◌≡◌, length, vec_items};
-ghost use Rattle.sheets.specs.Forms.{count_of, side_of, cipher_of, octic_of, key_bytes, sector_bytes};
+ghost use Rattle.std.specs.Prelude.{◌≡◌, length};
 ghost use Rattle.sheets.specs.Readings.{word_as};
 ghost use Rattle.sheets.specs.Spots.{spots};
 ghost use Rattle.sheets.specs.Steps.{left, Taken, Tokened, Step};
@@ -8,19 +7,19 @@ ghost use Rattle.sheets.specs.Steps.{left, Taken, Tokened, Step};
 use crate::faults::ReadError;
 use crate::sheet_reader::SheetReader;
 use crate::tokens::{Due, Token, bad_word};
-use ciphers::keys::Cipher;
+use crate::values::Value;
 use std::alloc::Global;
-use watch::side::Side;
 use words::{Word, over};
 
 // A reader at the start of a sheet.
-pub(crate) fn start<'a>(sheet: &'a [u8]) -> SheetReader<'a>
+pub(crate) fn start<'a>(heap: Global, sheet: &'a [u8]) -> SheetReader<'a>
     ensures words { left result ≡ spots 0 sheet.now }
     ensures end { result.end ≡ length sheet.now }
 {
     SheetReader {
         words: over(sheet),
         end: sheet.len(),
+        heap,
     }
 }
 
@@ -47,45 +46,11 @@ impl<'a> SheetReader<'a> {
         }
     }
 
-    // The count that the next word is.
-    pub(crate) fn count(&mut self) -> Result<u8, ReadError>
-        ensures { Step (λ x. x) (word_as count_of) self.old result self.new }
+    // The value that the next word stands for.
+    pub(crate) fn value<T: Value>(&mut self) -> Result<T, ReadError>
+        ensures { Step T.Value.item (word_as T.Value.form) self.old result self.new }
     {
-        self.token(Due::Count)?.count()
-    }
-
-    // The end that the next word names.
-    pub(crate) fn side(&mut self) -> Result<Side, ReadError>
-        ensures { Step (λ x. x) (word_as side_of) self.old result self.new }
-    {
-        self.token(Due::Letter)?.side()
-    }
-
-    // The cipher that the next word names.
-    pub(crate) fn cipher(&mut self) -> Result<Cipher, ReadError>
-        ensures { Step (λ x. x) (word_as cipher_of) self.old result self.new }
-    {
-        self.token(Due::Letter)?.cipher()
-    }
-
-    // The octic that the next word is.
-    pub(crate) fn octic(&mut self) -> Result<u16, ReadError>
-        ensures { Step (λ x. x) (word_as octic_of) self.old result self.new }
-    {
-        self.token(Due::Digits)?.octic()
-    }
-
-    // The key that the next word is.
-    pub(crate) fn key(&mut self) -> Result<[u8; 16], ReadError>
-        ensures { Step (λ x. x) (word_as key_bytes) self.old result self.new }
-    {
-        self.token(Due::Digits)?.key()
-    }
-
-    // The bytes of the sector that the next word is.
-    pub(crate) fn sector(&mut self, heap: Global) -> Result<Vec<u8>, ReadError>
-        ensures { Step vec_items (word_as sector_bytes) self.old result self.new }
-    {
-        self.token(Due::Digits)?.sector(heap)
+        let token = self.token(T::due())?;
+        T::of(self.heap, token)
     }
 }

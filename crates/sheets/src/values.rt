@@ -1,0 +1,187 @@
+// What the words of a sheet stand for: counts, ends, ciphers, octics, keys and sectors.
+ghost use Rattle.std.specs.Prelude.{◌≡◌, ℕ, List, Option, None, vec_items};
+ghost use Rattle.ciphers.specs.declared.keys.Cipher.{Cipher as CipherType};
+ghost use Rattle.watch.specs.declared.side.Side.{Side as SideType};
+ghost use Rattle.sheets.specs.declared.tokens.Due.{Due as DueType};
+ghost use Rattle.sheets.specs.declared.tokens.Due.TheVariants.{Count as DueCount, Letter as DueLetter, Digits as DueDigits};
+ghost use Rattle.sheets.specs.Forms.{count_of, side_of, cipher_of, octic_of, key_bytes, sector_bytes};
+ghost use Rattle.sheets.specs.Shapes.{no_count, no_side, no_cipher, no_digits};
+ghost use Rattle.sheets.specs.Steps.{Shaped, Stands, shape};
+
+use crate::digits::{key_value, sector_value};
+use crate::faults::ReadError;
+use crate::tokens::{Due, Token, bad_word};
+use ciphers::keys::Cipher;
+use std::alloc::Global;
+use watch::side::Side;
+use words::hex_triple;
+
+// A kind of value: `form` says what a word stands for as a plain value, and `item` is a value as a plain one.
+pub(crate) trait Value: Sized {
+    ghost Plain: { Type 0 };
+
+    ghost item: { Self → Plain };
+
+    ghost form: { List ℕ → Option Plain };
+
+    ghost due: { DueType };
+
+    // What is due where a value of this kind is read.
+    fn due() -> Due
+        ensures { result ≡ due };
+
+    // The value of a token.
+    fn of(heap: Global, token: Token) -> Result<Self, ReadError>
+        requires { Shaped due token }
+        ensures { Stands form item token.entry result };
+
+    // A word that makes no token stands for nothing.
+    ghost shaped: { (bs : List ℕ) → shape due bs ≡ None → form bs ≡ None };
+}
+
+// A count.
+impl Value for u8 {
+    ghost Plain = { ℕ };
+
+    ghost item = { λ n. n };
+
+    ghost form = { count_of };
+
+    ghost due = { DueCount };
+
+    ghost shaped = { no_count };
+
+    fn due() -> Due {
+        Due::Count
+    }
+
+    fn of(_heap: Global, token: Token) -> Result<u8, ReadError> {
+        match token {
+            Token::Count { value, .. } => Ok(value),
+            other => Err(other.refused()),
+        }
+    }
+}
+
+// An end: H or D.
+impl Value for Side {
+    ghost Plain = { SideType };
+
+    ghost item = { λ s. s };
+
+    ghost form = { side_of };
+
+    ghost due = { DueLetter };
+
+    ghost shaped = { no_side };
+
+    fn due() -> Due {
+        Due::Letter
+    }
+
+    fn of(_heap: Global, token: Token) -> Result<Side, ReadError> {
+        match token {
+            Token::Letter { letter: 'H', .. } => Ok(Side::First),
+            Token::Letter { letter: 'D', .. } => Ok(Side::Second),
+            other => Err(other.refused()),
+        }
+    }
+}
+
+// A cipher, by its letter.
+impl Value for Cipher {
+    ghost Plain = { CipherType };
+
+    ghost item = { λ c. c };
+
+    ghost form = { cipher_of };
+
+    ghost due = { DueLetter };
+
+    ghost shaped = { no_cipher };
+
+    fn due() -> Due {
+        Due::Letter
+    }
+
+    fn of(_heap: Global, token: Token) -> Result<Cipher, ReadError> {
+        match token {
+            Token::Letter { letter, place, .. } => {
+                Cipher::try_from(letter).map_err(|_| bad_word(place))
+            }
+            other => Err(other.refused()),
+        }
+    }
+}
+
+// An octic: three digits.
+impl Value for u16 {
+    ghost Plain = { ℕ };
+
+    ghost item = { λ n. n };
+
+    ghost form = { octic_of };
+
+    ghost due = { DueDigits };
+
+    ghost shaped = { no_digits octic_of };
+
+    fn due() -> Due {
+        Due::Digits
+    }
+
+    fn of(_heap: Global, token: Token) -> Result<u16, ReadError> {
+        match token {
+            Token::Digits { part, place } => hex_triple(part).ok_or(bad_word(place)),
+            other => Err(other.refused()),
+        }
+    }
+}
+
+// A key: 32 digits.
+impl Value for [u8; 16] {
+    ghost Plain = { List ℕ };
+
+    ghost item = { λ key. key };
+
+    ghost form = { key_bytes };
+
+    ghost due = { DueDigits };
+
+    ghost shaped = { no_digits key_bytes };
+
+    fn due() -> Due {
+        Due::Digits
+    }
+
+    fn of(_heap: Global, token: Token) -> Result<[u8; 16], ReadError> {
+        match token {
+            Token::Digits { part, place } => key_value(part).ok_or(bad_word(place)),
+            other => Err(other.refused()),
+        }
+    }
+}
+
+// The bytes of a sector: an even count of digits, 2 to 512.
+impl Value for Vec<u8> {
+    ghost Plain = { List ℕ };
+
+    ghost item = { vec_items };
+
+    ghost form = { sector_bytes };
+
+    ghost due = { DueDigits };
+
+    ghost shaped = { no_digits sector_bytes };
+
+    fn due() -> Due {
+        Due::Digits
+    }
+
+    fn of(heap: Global, token: Token) -> Result<Vec<u8>, ReadError> {
+        match token {
+            Token::Digits { part, place } => sector_value(heap, part)?.ok_or(bad_word(place)),
+            other => Err(other.refused()),
+        }
+    }
+}
