@@ -1,6 +1,5 @@
 -- The calls of one entry, as one to three entries more of a log. Assumes nothing.
 use Rattle.std.proofs.Common.{◌≡◌, ℕ, ◌+◌, ◌<◌, ◌≤◌, Bool, true, false, cond, List, length, Some, None, Ok, Err, Decides, Option, Result, sym, refl, ap, ◌∙◌, subst, subst₂, inl, inr, ⊎_elim, arith}
-use Rattle.std.specs.Result.{result_err}
 use Rattle.refusals.specs.declared.Refusal.{Refusal}
 use Rattle.ciphers.specs.declared.keys.Cipher.{Cipher}
 use Rattle.ends.specs.declared.records.Answer.{Answer}
@@ -17,7 +16,9 @@ use Rattle.runs.specs.declared.line.Line.{Line}
 use Rattle.runs.specs.declared.line.Line.TheVariants.{Fit, Key, Sector}
 use Rattle.runs.specs.declared.line.Passed.{Passed}
 use Rattle.runs.specs.Bearings.{bearing_of}
-use Rattle.runs.specs.Printed.{other, letter_for, Entered}
+use Rattle.ciphers.specs.Letters.{letter_for}
+use Rattle.watch.specs.Sides.{other}
+use Rattle.runs.specs.Printed.{outcome, Entered}
 
 -- only a seal is handed a ticket
 fit_handed : (P : Log) (octic : ℕ) (r : Result Answer Refusal) → Handed P (fitting octic r)
@@ -28,13 +29,13 @@ key_handed : (P : Log) (letter : ℕ) (key before after : List ℕ) (r : Result 
 key_handed P letter key before after (Ok u) = tt
 key_handed P letter key before after (Err e) = tt
 
-pub fit_enters : {w v : World} {s : Side} {octic : ℕ} {r : Result Answer Refusal} {o : Option Refusal} → Goes w (entry s (fitting octic r)) v → o ≡ result_err r → Entered w (fit_item s octic) (Fit s o) v
+pub fit_enters : {w v : World} {s : Side} {octic : ℕ} {r : Result Answer Refusal} {o : Result (Unit {0}) Refusal} → Goes w (entry s (fitting octic r)) v → o ≡ outcome r → Entered w (fit_item s octic) (Fit s o) v
 fit_enters {w} {v} {s} {octic} {r} goes e = record {
   on = λ begin P fresh run. (P ▷ entry s (fitting octic r), (w, run, fit_handed P octic r, goes), record { answer = r; calls = refl; line = ap (Fit s) e });
 }
 
-pub key_enters : {w v : World} {s : Side} {c : Cipher} {letter : ℕ} {key before after : List ℕ} {r : Result (Unit {0}) Refusal} {o : Option Refusal} → letter ≡ letter_for c → 176 ≤ length before → Goes w (entry s (keying letter key before after r)) v → o ≡ result_err r → Entered w (key_item s c key) (Key s o) v
-key_enters {w} {v} {s} {c} {letter} {key} {before} {after} {r} is room goes e = record {
+pub key_enters : {w v : World} {s : Side} {c : Cipher} {letter : ℕ} {key before after : List ℕ} {r : Result (Unit {0}) Refusal} → letter ≡ letter_for c → 176 ≤ length before → Goes w (entry s (keying letter key before after r)) v → Entered w (key_item s c key) (Key s r) v
+key_enters {w} {v} {s} {c} {letter} {key} {before} {after} {r} is room goes = record {
   on = λ begin P fresh run. (
     P ▷ entry s (keying letter key before after r),
     (w, run, key_handed P letter key before after r, goes),
@@ -44,7 +45,7 @@ key_enters {w} {v} {s} {c} {letter} {key} {before} {after} {r} is room goes e = 
       after = after;
       room = room;
       calls = ap (λ (x : ℕ). P ▷ entry s (keying x key before after r)) is;
-      line = ap (Key s) e;
+      line = refl;
     },
   );
 }

@@ -1,5 +1,5 @@
 -- The lines of a sheet, byte for byte. Assumes nothing.
-use Rattle.std.specs.Prelude.{ℕ, Bool, true, false, List, [], ◌∷◌, ◌++◌, Some, None, Ok, Err, codes, decimal, Option}
+use Rattle.std.specs.Prelude.{ℕ, Bool, true, false, List, [], ◌∷◌, ◌++◌, Ok, Err, codes, decimal, Result}
 use Rattle.refusals.specs.Numbers.{number_of}
 use Rattle.refusals.specs.declared.Refusal.{Refusal}
 use Rattle.sheets.specs.Numbers.{number_of as sheet_number_of}
@@ -14,9 +14,9 @@ letter_of First = codes "H"
 letter_of Second = codes "D"
 
 -- 0 where nothing was refused, and else the refusal's number
-abbrev pub answer_of : Option Refusal → ℕ
-answer_of None = 0
-answer_of (Some e) = number_of e
+abbrev pub answer_of : Result (Unit {0}) Refusal → ℕ
+answer_of (Ok u) = 0
+answer_of (Err e) = number_of e
 
 -- Y where the first bytes came back, and else N
 abbrev pub mark_of : Bool → List ℕ

@@ -1,17 +1,17 @@
 -- What the entries of a sheet do at two ends, and the line that each prints. Assumes nothing.
 use Rattle.std.specs.Prelude.{◌≡◌, ℕ, ◌≤◌, true, ◌⊎◌, List, [], ◌∷◌, ◌++◌, length, Ok, Err, Decides, Result}
-use Rattle.std.specs.Result.{result_err}
 use Rattle.refusals.specs.declared.Refusal.{Refusal}
 use Rattle.rings.specs.Poly.{mul_mod}
 use Rattle.display_ring.specs.Display.{display_mul}
 use Rattle.ciphers.specs.declared.keys.Cipher.{Cipher}
-use Rattle.ciphers.specs.declared.keys.Cipher.TheVariants.{Aes, Sm4}
+use Rattle.ciphers.specs.Letters.{letter_for}
 use Rattle.ends.specs.declared.records.Answer.{Answer}
 use Rattle.ends.specs.declared.ticket.Ticket.{Ticket}
 use Rattle.ends.specs.Model.{made}
 use Rattle.ends.specs.Model.Call.{fitting, keying, drawing, sealing, opening}
 use Rattle.watch.specs.declared.side.Side.{Side}
 use Rattle.watch.specs.declared.side.Side.TheVariants.{First, Second}
+use Rattle.watch.specs.Sides.{other}
 use Rattle.watch.specs.Log.{Log, none, ◌▷◌, entry, holds}
 use Rattle.watch.specs.Runs.{World, Begins, Run}
 use Rattle.watch.specs.Shows.{Shows}
@@ -23,23 +23,18 @@ use Rattle.runs.specs.declared.line.Line.TheVariants.{Bad, Fit, Key, Sector}
 use Rattle.runs.specs.declared.line.Passed.{Passed}
 use Rattle.runs.specs.Bearings.{bearing_of}
 
--- the end across the link
-abbrev pub other : Side → Side
-other First = Second
-other Second = First
-
--- the letter of a cipher: A is AES-128 and S is SM4
-abbrev pub letter_for : Cipher → ℕ
-letter_for Aes = 65
-letter_for Sm4 = 83
-
 -- ---- one entry: from the log P its calls lead to the log Q, and it prints the line l
+
+-- whether a call was accepted, without what it answered
+abbrev pub outcome : {A : Type 0} → Result A Refusal → Result (Unit {0}) Refusal
+outcome (Ok a) = Ok tt
+outcome (Err e) = Err e
 
 -- a fit is one call, and its line has what that was refused by
 pub record Fits (P : Log) (s : Side) (octic : ℕ) (l : Line) (Q : Log) : Type 0 where
   pub answer : Result Answer Refusal
   pub calls : Q ≡ P ▷ entry s (fitting octic answer)
-  pub line : l ≡ Fit s (result_err answer)
+  pub line : l ≡ Fit s (outcome answer)
 
 -- a key is one call, with a work area that is large enough, and its line has what that was refused by
 pub record Keys (P : Log) (s : Side) (c : Cipher) (key : List ℕ) (l : Line) (Q : Log) : Type 0 where
@@ -48,7 +43,7 @@ pub record Keys (P : Log) (s : Side) (c : Cipher) (key : List ℕ) (l : Line) (Q
   pub after : List ℕ
   pub room : 176 ≤ length before
   pub calls : Q ≡ P ▷ entry s (keying (letter_for c) key before after answer)
-  pub line : l ≡ Key s (result_err answer)
+  pub line : l ≡ Key s answer
 
 -- a sector for which no ticket is drawn
 pub record Undrawn (P : Log) (s : Side) (l : Line) (Q : Log) : Type 0 where

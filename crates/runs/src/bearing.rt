@@ -6,6 +6,6 @@ ghost use Rattle.runs.specs.Bearings.{bearing_of};
 pub fn bearing(number: u64) -> u16
     ensures { result ≡ bearing_of number }
 {
-    let k = (number % 4096) as u32;
+    let k = number % 4096;
     ((225 * k + 128) / 256) as u16
 }

@@ -19,8 +19,8 @@ pub struct Passed {
 #[derive(Clone, Copy)]
 pub enum Line {
     Bad(Fault),
-    Fit(Side, Option<Refusal>),
-    Key(Side, Option<Refusal>),
+    Fit(Side, Result<(), Refusal>),
+    Key(Side, Result<(), Refusal>),
     Sector(Side, Result<Passed, Refusal>),
 }
 
@@ -35,12 +35,12 @@ fn letter(side: Side) -> &'static str
 }
 
 // 0, or the number of the refusal.
-fn answer(refusal: Option<Refusal>) -> u8
-    ensures { result ≡ answer_of refusal }
+fn number(answer: Result<(), Refusal>) -> u8
+    ensures { result ≡ answer_of answer }
 {
-    match refusal {
-        Some(e) => e.number(),
-        None => 0,
+    match answer {
+        Ok(()) => 0,
+        Err(refusal) => refusal.number(),
     }
 }
 
@@ -61,14 +61,14 @@ impl fmt::Display for Line {
                 let place = fault.place;
                 write!(f, "E {n} {place}")
             }
-            Line::Fit(side, refusal) => {
+            Line::Fit(side, answer) => {
                 let end = letter(side);
-                let n = answer(refusal);
+                let n = number(answer);
                 write!(f, "F {end} {n}")
             }
-            Line::Key(side, refusal) => {
+            Line::Key(side, answer) => {
                 let end = letter(side);
-                let n = answer(refusal);
+                let n = number(answer);
                 write!(f, "K {end} {n}")
             }
             Line::Sector(side, Ok(passed)) => {

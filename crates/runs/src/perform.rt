@@ -4,11 +4,10 @@ ghost use Rattle.watch.specs.Watched.{kind, world};
 ghost use Rattle.sheets.specs.Contents.{Item, fit_of, key_of, sector_of};
 ghost use Rattle.sheets.specs.Contents.Item.{sector_item};
 ghost use Rattle.runs.specs.declared.line.Line.TheVariants.{Sector};
-ghost use Rattle.runs.specs.Printed.{Entered, letter_for, other as other_of};
+ghost use Rattle.runs.specs.Printed.{Entered};
 
 use crate::bearing::bearing;
 use crate::line::{Line, Passed};
-use ciphers::keys::Cipher;
 use refusals::Refusal;
 use rings::Ring;
 use sheets::entries::{FitEntry, KeyEntry, SectorEntry};
@@ -28,26 +27,6 @@ pub trait Perform {
         ensures { IfOk result (λ l. Entered (world (kind X.Ring.bits X.Ring.mul) (kind Y.Ring.bits Y.Ring.mul) ends.old) (item self.now) l (world (kind X.Ring.bits X.Ring.mul) (kind Y.Ring.bits Y.Ring.mul) ends.new)) };
 }
 
-// The letter of a cipher.
-fn letter(cipher: Cipher) -> char
-    ensures { result ≡ letter_for cipher }
-{
-    match cipher {
-        Cipher::Aes => 'A',
-        Cipher::Sm4 => 'S',
-    }
-}
-
-// The end across the link.
-fn other(side: Side) -> Side
-    ensures { result ≡ other_of side }
-{
-    match side {
-        Side::First => Side::Second,
-        Side::Second => Side::First,
-    }
-}
-
 impl Perform for FitEntry {
     ghost item = { fit_of };
 
@@ -57,7 +36,7 @@ impl Perform for FitEntry {
         ends: &mut Watch<X, Y>,
     ) -> Result<Line, AllocError> {
         let answer = ends.fit(self.side, self.octic);
-        Ok(Line::Fit(self.side, answer.err()))
+        Ok(Line::Fit(self.side, answer.map(|_| ())))
     }
 }
 
@@ -70,8 +49,8 @@ impl Perform for KeyEntry {
         ends: &mut Watch<X, Y>,
     ) -> Result<Line, AllocError> {
         let mut work = [0; 176];
-        let answer = ends.key(self.side, letter(self.cipher), &self.key, &mut work);
-        Ok(Line::Key(self.side, answer.err()))
+        let answer = ends.key(self.side, self.cipher.into(), &self.key, &mut work);
+        Ok(Line::Key(self.side, answer))
     }
 }
 
@@ -79,10 +58,7 @@ impl Perform for KeyEntry {
 fn came_back(opened: Result<(), Refusal>, bytes: &[u8], first: &[u8]) -> bool
     ensures { Decides result ((opened ≡ Ok tt) × (bytes.now ≡ first.now)) }
 {
-    match opened {
-        Ok(()) => bytes == first,
-        Err(_) => false,
-    }
+    opened.is_ok() && bytes == first
 }
 
 // Draws and seals the bytes at an end and opens them at the other; `first` are the same bytes, and stay.
@@ -99,7 +75,7 @@ fn carry<X: Ring, Y: Ring>(
     let name = ticket.name();
     let number = ticket.number();
     ends.seal(side, ticket, bytes)?;
-    let opened = ends.open(other(side), name, number, bytes);
+    let opened = ends.open(side.other(), name, number, bytes);
     Ok(Passed {
         number,
         bearing: bearing(number),

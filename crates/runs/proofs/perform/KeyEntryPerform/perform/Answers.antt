@@ -3,4 +3,4 @@ use Rattle.runs.proofs.Entering.{key_enters}
 use Rattle.runs.proofs.perform.KeyEntryPerform.perform.Goals as goal
 
 pub returns : goal.returns
-returns g c = key_enters c.letter.ensures (lit≤ tt) c.key-answer.ensures.goes c.err.ensures.value
+returns g c = key_enters c.into.ensures (lit≤ tt) c.key-answer.ensures.goes
