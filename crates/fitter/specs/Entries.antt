@@ -1,6 +1,5 @@
 -- What the words of an entry name. Assumes nothing.
-use Rattle.std.specs.Prelude.{ℕ, ◌+◌, ◌*◌, cond, ◌&&◌, List, [], ◌∷◌, Some, None, Option, ◌==◌}
-use Rattle.words.specs.Hex.{hex_value}
+use Rattle.std.specs.Prelude.{ℕ, cond, ◌&&◌, List, [], ◌∷◌, Some, None, Option, ◌==◌}
 use Rattle.fitter.specs.declared.entry.Choice.{Choice}
 use Rattle.fitter.specs.declared.entry.Choice.TheVariants.{Ring13, Ring19, Ring1F, Powers, FourWith2, FourWith3}
 use Rattle.fitter.specs.declared.entry.Published.{Published}
@@ -23,21 +22,6 @@ ring_of (a ∷ []) = None
 ring_of (a ∷ b ∷ []) = two_bytes a b
 ring_of (a ∷ b ∷ c ∷ []) = three_bytes a b c
 ring_of (a ∷ b ∷ c ∷ d ∷ ds) = None
-
--- three digits, the highest first
-abbrev pub three_digits : Option ℕ → Option ℕ → Option ℕ → Option ℕ
-three_digits None b c = None
-three_digits (Some a) None c = None
-three_digits (Some a) (Some b) None = None
-three_digits (Some a) (Some b) (Some c) = Some (a * 256 + b * 16 + c)
-
--- the number that a word of three hexadecimal digits stands for
-abbrev pub octic_of : List ℕ → Option ℕ
-octic_of [] = None
-octic_of (a ∷ []) = None
-octic_of (a ∷ b ∷ []) = None
-octic_of (a ∷ b ∷ c ∷ []) = three_digits (hex_value a) (hex_value b) (hex_value c)
-octic_of (a ∷ b ∷ c ∷ d ∷ ds) = None
 
 -- the pairs that were published for ring 13
 abbrev pub of_13 : ℕ → Option Published

@@ -1,13 +1,12 @@
-// What the words of an entry name: a ring and an octic.
+// What the words of an entry name: a ring, and its published pairs.
 ghost use Rattle.std.specs.Prelude.{◌≡◌};
-ghost use Rattle.fitter.specs.Entries.{ring_of, octic_of, published_of};
+ghost use Rattle.fitter.specs.Entries.{ring_of, published_of};
 
 use refusals::Refusal;
 use rings::pairing::Pairing;
 use rings::poly::{Four, Quartic};
 use rings::powers::Powers13;
 use towers::pair::Pair;
-use words::hex_value;
 
 // A ring that the yard fits.
 #[derive(Clone, Copy, PartialEq, Eq)]
@@ -38,21 +37,6 @@ pub(crate) fn ring_named(part: &[u8]) -> Option<Choice>
         b"13P" => Some(Choice::Powers),
         b"4:2" => Some(Choice::FourWith2),
         b"4:3" => Some(Choice::FourWith3),
-        _ => None,
-    }
-}
-
-// The number of three hexadecimal digits.
-pub(crate) fn octic_named(part: &[u8]) -> Option<u16>
-    ensures { result ≡ octic_of part.now }
-{
-    match part {
-        [a, b, c] => {
-            let high = hex_value(*a)?;
-            let middle = hex_value(*b)?;
-            let low = hex_value(*c)?;
-            Some(high as u16 * 256 + middle as u16 * 16 + low as u16)
-        }
         _ => None,
     }
 }

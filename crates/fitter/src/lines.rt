@@ -1,9 +1,9 @@
 // The lines of the report.
-use crate::entry::{Choice, Published, fit_of, octic_named, published_for, ring_named};
+use crate::entry::{Choice, Published, fit_of, published_for, ring_named};
 use std::{fmt, io};
 use towers::pair::Pair;
-use words::Word;
 use words::shown::Shown;
+use words::{Word, hex_triple};
 
 // Row `row` of a matrix of eight columns: 1 for an entry 1, and a dot for an entry 0.
 #[derive(Clone, Copy)]
@@ -81,7 +81,7 @@ fn print_entry(rt: &impl Print, ring: Word, octic: Word) -> io::Result<()> {
     let Some(choice) = ring_named(ring.part) else {
         return print_bad(rt, ring, "ring: 13, 19, 1F, 13P, 4:2 or 4:3");
     };
-    let Some(number) = octic_named(octic.part) else {
+    let Some(number) = hex_triple(octic.part) else {
         return print_bad(
             rt,
             octic,
