@@ -38,7 +38,7 @@ fn told_of(pair: &Pair) -> Told
 impl<R: Ring> End<R> {
     // An end under a name, whose first ticket has the number `first`; it has no fit and no key.
     pub fn new(ring: R, name: u16, first: u64) -> Self
-        ensures { model R.Ring.bits R.Ring.mul result ≡ made R.Ring.bits (R.Ring.mul ring) name first }
+        ensures { model R.Ring.WIDTH R.Ring.mul result ≡ made R.Ring.WIDTH (R.Ring.mul ring) name first }
     {
         End {
             ring,
@@ -51,7 +51,7 @@ impl<R: Ring> End<R> {
 
     // Keeps a pair for the octic, and forgets the key.
     pub fn fit(&mut self, octic: u16) -> Result<Answer, Refusal>
-        ensures { Calls R.Ring.bits R.Ring.mul self.old (fitting octic result) self.new }
+        ensures { Calls R.Ring.WIDTH R.Ring.mul self.old (fitting octic result) self.new }
     {
         let pair = towers::fit(&self.ring, octic)?;
         let inverses = inverses_by(&self.ring, octic, &pair);
@@ -65,7 +65,7 @@ impl<R: Ring> End<R> {
 
     // Loads a key, by way of the work area, which is zero afterwards in any case.
     pub fn key(&mut self, letter: char, key: &[u8], work: &mut [u8]) -> Result<(), Refusal>
-        ensures { Calls R.Ring.bits R.Ring.mul self.old (keying letter key.now work.old work.new result) self.new }
+        ensures { Calls R.Ring.WIDTH R.Ring.mul self.old (keying letter key.now work.old work.new result) self.new }
     {
         let guard = Work { bytes: work };
         let Some(fitted) = &self.fitted else {
@@ -77,7 +77,7 @@ impl<R: Ring> End<R> {
 
     // A ticket with the end's name and next number, which then rises by 1.
     pub fn draw(&mut self) -> Result<Ticket, Refusal>
-        ensures { Calls R.Ring.bits R.Ring.mul self.old (drawing result) self.new }
+        ensures { Calls R.Ring.WIDTH R.Ring.mul self.old (drawing result) self.new }
     {
         if self.next == u64::MAX {
             return Err(Refusal::NumbersUsedUp);
@@ -92,7 +92,7 @@ impl<R: Ring> End<R> {
 
     // Works the bytes under a ticket and spends it, accepted or not.
     pub fn seal(&self, ticket: Ticket, bytes: &mut [u8]) -> Result<(), Refusal>
-        ensures { Calls R.Ring.bits R.Ring.mul self.now (sealing ticket bytes.old bytes.new result) self.now }
+        ensures { Calls R.Ring.WIDTH R.Ring.mul self.now (sealing ticket bytes.old bytes.new result) self.now }
     {
         let Ticket { name, number } = ticket;
         let Some(key) = &self.loaded else {
@@ -106,7 +106,7 @@ impl<R: Ring> End<R> {
 
     // Works the bytes under any name and number.
     pub fn open(&self, name: u16, number: u64, bytes: &mut [u8]) -> Result<(), Refusal>
-        ensures { Calls R.Ring.bits R.Ring.mul self.now (opening name number bytes.old bytes.new result) self.now }
+        ensures { Calls R.Ring.WIDTH R.Ring.mul self.now (opening name number bytes.old bytes.new result) self.now }
     {
         match &self.loaded {
             Some(loaded) => loaded.work(name, number, bytes),
@@ -116,14 +116,14 @@ impl<R: Ring> End<R> {
 
     // Forgets the key, and keeps the fit and the number.
     pub fn wipe(&mut self)
-        ensures { Calls R.Ring.bits R.Ring.mul self.old wiping self.new }
+        ensures { Calls R.Ring.WIDTH R.Ring.mul self.old wiping self.new }
     {
         self.loaded = None;
     }
 
     // Fills in the kept pair.
     pub fn tell(&self, told: &mut Told) -> Result<(), Refusal>
-        ensures { Calls R.Ring.bits R.Ring.mul self.now (telling told.old told.new result) self.now }
+        ensures { Calls R.Ring.WIDTH R.Ring.mul self.now (telling told.old told.new result) self.now }
     {
         let Some(fitted) = &self.fitted else {
             return Err(Refusal::NoFit);
@@ -134,7 +134,7 @@ impl<R: Ring> End<R> {
 
     // A byte's tower code, that code's tower inverse and the byte that the map makes of it.
     pub fn trail(&self, byte: u8) -> Result<Trail, Refusal>
-        ensures { Calls R.Ring.bits R.Ring.mul self.now (trailing byte result) self.now }
+        ensures { Calls R.Ring.WIDTH R.Ring.mul self.now (trailing byte result) self.now }
     {
         match &self.fitted {
             Some(fitted) => Ok(trail_of(&self.ring, &fitted.pair, byte)),
@@ -144,7 +144,7 @@ impl<R: Ring> End<R> {
 
     // The byte that the letter's box makes of a byte.
     pub fn box_byte(&self, letter: char, byte: u8) -> Result<u8, Refusal>
-        ensures { Calls R.Ring.bits R.Ring.mul self.now (boxing letter byte result) self.now }
+        ensures { Calls R.Ring.WIDTH R.Ring.mul self.now (boxing letter byte result) self.now }
     {
         let Some(fitted) = &self.fitted else {
             return Err(Refusal::NoFit);

@@ -12,7 +12,7 @@ use towers::trail::trail_of;
 
 // The inverse of a byte in the octic's ring, by the byte's trail.
 fn inverse_by<R: Ring>(ring: &R, octic: u16, pair: &Pair, x: u8) -> u8
-    requires field { Sixteen R.Ring.bits (R.Ring.mul ring.now) }
+    requires field { Sixteen R.Ring.WIDTH (R.Ring.mul ring.now) }
     requires accepted { Accepted octic }
     requires kept { Keeps (R.Ring.mul ring.now) octic pair.now }
     ensures { result ≡ inverse_mod octic x }
@@ -22,7 +22,7 @@ fn inverse_by<R: Ring>(ring: &R, octic: u16, pair: &Pair, x: u8) -> u8
 
 // The inverses of all bytes, each by its trail.
 pub(super) fn inverses_by<R: Ring>(ring: &R, octic: u16, pair: &Pair) -> Inverses
-    requires field { Sixteen R.Ring.bits (R.Ring.mul ring.now) }
+    requires field { Sixteen R.Ring.WIDTH (R.Ring.mul ring.now) }
     requires accepted { Accepted octic }
     requires kept { Keeps (R.Ring.mul ring.now) octic pair.now }
     ensures { result.octic ≡ octic }

@@ -13,7 +13,7 @@ fn gap(index: u16) -> &'static str {
 }
 
 fn print_products<R: Ring>(rt: &impl Print, ring: &R) -> io::Result<()> {
-    let codes = 1u16 << R::bit_width();
+    let codes = 1u16 << R::WIDTH;
     for a in 0..codes {
         for b in 0..codes {
             let product = ring.product(a as u8, b as u8);
@@ -26,8 +26,8 @@ fn print_products<R: Ring>(rt: &impl Print, ring: &R) -> io::Result<()> {
 }
 
 fn print_inverses<R: Ring>(rt: &impl Print, ring: &R) -> io::Result<()> {
-    let wide = R::bit_width() == 8;
-    let codes = 1u16 << R::bit_width();
+    let wide = R::WIDTH == 8;
+    let codes = 1u16 << R::WIDTH;
     println!(rt; "inverses")?;
     for a in 0..codes {
         let gap = gap(a);
@@ -45,7 +45,7 @@ fn print_inverses<R: Ring>(rt: &impl Print, ring: &R) -> io::Result<()> {
 
 fn print_ring<R: Ring>(rt: &impl Print, name: &str, ring: &R) -> io::Result<()> {
     println!(rt; "ring {name}")?;
-    if R::bit_width() <= 4 {
+    if R::WIDTH <= 4 {
         print_products(rt, ring)?;
     }
     print_inverses(rt, ring)

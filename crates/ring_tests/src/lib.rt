@@ -10,7 +10,7 @@ mod tests {
 
     // The associated constant and the width that the contracts speak of.
     fn same_width<R: Ring>(width: u32) -> bool {
-        R::WIDTH == width && R::bit_width() == width
+        R::WIDTH == width
     }
 
     #[test]

@@ -8,26 +8,22 @@ pub mod pairing;
 pub mod poly;
 pub mod powers;
 
-// `bits` is the width of the codes, and `mul` the product on them. Both calls read only the low bits of a code.
+// `WIDTH` is the width of the codes, and `mul` the product on them. Both calls read only the low bits of a code.
 pub trait Ring {
     const WIDTH: u32;
 
-    ghost bits: { ℕ };
+    ghost WIDTH: { ℕ };
 
     ghost mul: { Self → ℕ → ℕ → ℕ };
 
-    // The width as a contract can name it; it equals WIDTH.
-    fn bit_width() -> u32
-        ensures { result ≡ bits };
-
     fn product(&self, a: u8, b: u8) -> u8
-        ensures { result ≡ mul self.now (a % 2 ^ bits) (b % 2 ^ bits) };
+        ensures { result ≡ mul self.now (a % 2 ^ WIDTH) (b % 2 ^ WIDTH) };
 
     // The code whose product with `a` is 1, or none where there is no such code.
     fn inverse(&self, a: u8) -> Option<u8>
-        ensures { Inverts bits 1 (mul self.now) (a % 2 ^ bits) result }
+        ensures { Inverts WIDTH 1 (mul self.now) (a % 2 ^ WIDTH) result }
     {
-        let codes = 1u16 << Self::bit_width();
+        let codes = 1u16 << Self::WIDTH;
         for b in 0..codes {
             if self.product(a, b as u8) == 1 {
                 return Some(b as u8);
@@ -36,7 +32,7 @@ pub trait Ring {
         None
     }
 
-    ghost narrow: { Narrow bits };
+    ghost narrow: { Narrow WIDTH };
 
-    ghost laws: { (r : Self) → Laws bits 1 (mul r) };
+    ghost laws: { (r : Self) → Laws WIDTH 1 (mul r) };
 }

@@ -7,9 +7,11 @@ ghost use Rattle.std.proofs.Common.{rules};
 
 use crate::Ring;
 
-#[derive(Drop)]
-pub struct Pairing<R> {
-    below: R,
+// The pairing over a ring that is lent, with a constant. An `impl Ring` for a type with a lifetime gets no clauses for `WIDTH` from
+// the trait yet, so these methods are its own.
+#[derive_where(Clone, Copy)]
+pub struct Lent<'a, R> {
+    below: &'a R,
     constant: u8,
 }
 
@@ -23,127 +25,108 @@ fn join(w: u32, high: u8, low: u8) -> u8
     (high << w) | low
 }
 
-// The norm in the pairing over a ring that is lent: a code of that ring, which has an inverse there just if `a` has one in the
-// pairing.
-pub fn norm_over<R: Ring>(ring: &R, constant: u8, a: u8) -> u8
-    ensures { Normed R.Ring.bits 1 (R.Ring.mul ring.now) constant (a % 2 ^ pairing_bits R.Ring.bits) result }
-{
-    if R::bit_width() < 8 {
-        pair_norm(ring, constant, a)
-    } else {
-        own_norm(ring, constant, a)
+impl<'a, R: Ring> Lent<'a, R> {
+    // Of the constant the low bits count, as many as the width below.
+    pub fn new(below: &'a R, constant: u8) -> Self
+        ensures below { result.below.now ≡ below.now }
+        ensures constant { result.constant ≡ constant }
+    {
+        Lent { below, constant }
+    }
+
+    // The norm, a code of the ring below, which has an inverse there just if `a` has one here. Over width 8 a code is its own norm.
+    pub fn norm(&self, a: u8) -> u8
+        ensures { Normed R.Ring.WIDTH 1 (R.Ring.mul self.now.below.now) self.now.constant (a % 2 ^ pairing_bits R.Ring.WIDTH) result }
+    {
+        if R::WIDTH >= 8 {
+            return a;
+        }
+        self.pair_norm(a)
+    }
+
+    // The product. Over width 8 the pairing is the ring below.
+    pub fn product(&self, a: u8, b: u8) -> u8
+        ensures { result ≡ pairing_mul R.Ring.WIDTH (R.Ring.mul self.now.below.now) self.now.constant (a % 2 ^ pairing_bits R.Ring.WIDTH) (b % 2 ^ pairing_bits R.Ring.WIDTH) }
+    {
+        if R::WIDTH >= 8 {
+            return self.below.product(a, b);
+        }
+        self.multiply_halves(a, b)
+    }
+
+    // The code whose product with `a` is 1, or none where there is no such code.
+    pub fn inverse(&self, a: u8) -> Option<u8>
+        ensures { Inverts (pairing_bits R.Ring.WIDTH) 1 (pairing_mul R.Ring.WIDTH (R.Ring.mul self.now.below.now) self.now.constant) (a % 2 ^ pairing_bits R.Ring.WIDTH) result }
+    {
+        if R::WIDTH >= 8 {
+            return self.below.inverse(a);
+        }
+        self.pair_inverse(a)
+    }
+
+    // The norm and the inverse where the ring below has width 2 or 4.
+    fn pair_norm(&self, a: u8) -> u8
+        requires { R.Ring.WIDTH < 8 }
+        ensures halves { result ≡ norm_of R.Ring.WIDTH (R.Ring.mul self.now.below.now) self.now.constant (a % 2 ^ (R.Ring.WIDTH + R.Ring.WIDTH)) }
+        ensures normed { Normed R.Ring.WIDTH 1 (R.Ring.mul self.now.below.now) self.now.constant (a % 2 ^ pairing_bits R.Ring.WIDTH) result }
+    {
+        self.norm_form(a)
+    }
+
+    fn pair_inverse(&self, a: u8) -> Option<u8>
+        requires { R.Ring.WIDTH < 8 }
+        ensures { Inverts (pairing_bits R.Ring.WIDTH) 1 (pairing_mul R.Ring.WIDTH (R.Ring.mul self.now.below.now) self.now.constant) (a % 2 ^ pairing_bits R.Ring.WIDTH) result }
+    {
+        let m = self.below.inverse(self.pair_norm(a))?;
+        Some(self.divide_halves(a, m))
+    }
+
+    // The quadratic form of the halves that is the norm. The ring below reads only the low bits.
+    fn norm_form(&self, a: u8) -> u8
+        requires { R.Ring.WIDTH < 8 }
+        ensures { result ≡ form (lows R.Ring.WIDTH (R.Ring.mul self.now.below.now)) self.now.constant (a / 2 ^ R.Ring.WIDTH) a }
+    {
+        let a1 = a >> R::WIDTH;
+        let low_square = self.below.product(a, a);
+        let cross = self.below.product(a, a1);
+        let high_square = self.below.product(a1, a1);
+        let carry = self.below.product(self.constant, high_square);
+        low_square ^ cross ^ carry
+    }
+
+    // The product by the halves.
+    fn multiply_halves(&self, a: u8, b: u8) -> u8
+        requires { R.Ring.WIDTH < 8 }
+        ensures { result ≡ schoolbook R.Ring.WIDTH (lows R.Ring.WIDTH (R.Ring.mul self.now.below.now)) self.now.constant (a / 2 ^ R.Ring.WIDTH) a (b / 2 ^ R.Ring.WIDTH) b }
+    {
+        let w = R::WIDTH;
+        let a1 = a >> w;
+        let b1 = b >> w;
+        let top = self.below.product(a1, b1);
+        let left = self.below.product(a1, b);
+        let right = self.below.product(a, b1);
+        let bottom = self.below.product(a, b);
+        let carry = self.below.product(self.constant, top);
+        join(w, top ^ left ^ right, bottom ^ carry)
+    }
+
+    // The halves of the inverse, where m is the norm's inverse: r1 m, and (r0 + r1) m.
+    fn divide_halves(&self, a: u8, m: u8) -> u8
+        requires { R.Ring.WIDTH < 8 }
+        ensures { result ≡ by_norm R.Ring.WIDTH (lows R.Ring.WIDTH (R.Ring.mul self.now.below.now)) (a / 2 ^ R.Ring.WIDTH) a m }
+    {
+        let w = R::WIDTH;
+        let a1 = a >> w;
+        let high = self.below.product(a1, m);
+        let low = self.below.product(a ^ a1, m);
+        join(w, high, low)
     }
 }
 
-// The product in the pairing over a ring that is lent.
-pub fn product_over<R: Ring>(ring: &R, constant: u8, a: u8, b: u8) -> u8
-    ensures { result ≡ pairing_mul R.Ring.bits (R.Ring.mul ring.now) constant (a % 2 ^ pairing_bits R.Ring.bits) (b % 2 ^ pairing_bits R.Ring.bits) }
-{
-    if R::bit_width() < 8 {
-        pair_product(ring, constant, a, b)
-    } else {
-        own_product(ring, constant, a, b)
-    }
-}
-
-// The inverse in the pairing over a ring that is lent.
-pub fn inverse_over<R: Ring>(ring: &R, constant: u8, a: u8) -> Option<u8>
-    ensures { Inverts (pairing_bits R.Ring.bits) 1 (pairing_mul R.Ring.bits (R.Ring.mul ring.now) constant) (a % 2 ^ pairing_bits R.Ring.bits) result }
-{
-    if R::bit_width() < 8 {
-        pair_inverse(ring, constant, a)
-    } else {
-        own_inverse(ring, constant, a)
-    }
-}
-
-// Over width 8 a code is its own norm, and the product and the inverse are those of the ring below.
-fn own_norm<R: Ring>(ring: &R, constant: u8, a: u8) -> u8
-    requires { 8 ≤ R.Ring.bits }
-    ensures { Normed R.Ring.bits 1 (R.Ring.mul ring.now) constant (a % 2 ^ pairing_bits R.Ring.bits) result }
-{
-    a
-}
-
-fn own_product<R: Ring>(ring: &R, constant: u8, a: u8, b: u8) -> u8
-    requires { 8 ≤ R.Ring.bits }
-    ensures { result ≡ pairing_mul R.Ring.bits (R.Ring.mul ring.now) constant (a % 2 ^ pairing_bits R.Ring.bits) (b % 2 ^ pairing_bits R.Ring.bits) }
-{
-    ring.product(a, b)
-}
-
-fn own_inverse<R: Ring>(ring: &R, constant: u8, a: u8) -> Option<u8>
-    requires { 8 ≤ R.Ring.bits }
-    ensures { Inverts (pairing_bits R.Ring.bits) 1 (pairing_mul R.Ring.bits (R.Ring.mul ring.now) constant) (a % 2 ^ pairing_bits R.Ring.bits) result }
-{
-    ring.inverse(a)
-}
-
-// The norm, the product and the inverse where the ring below has width 2 or 4. The ring below reads only the low bits.
-fn pair_norm<R: Ring>(ring: &R, constant: u8, a: u8) -> u8
-    requires { R.Ring.bits < 8 }
-    ensures halves { result ≡ norm_of R.Ring.bits (R.Ring.mul ring.now) constant (a % 2 ^ (R.Ring.bits + R.Ring.bits)) }
-    ensures normed { Normed R.Ring.bits 1 (R.Ring.mul ring.now) constant (a % 2 ^ pairing_bits R.Ring.bits) result }
-{
-    norm_form(ring, constant, a)
-}
-
-fn pair_product<R: Ring>(ring: &R, constant: u8, a: u8, b: u8) -> u8
-    requires { R.Ring.bits < 8 }
-    ensures { result ≡ pairing_mul R.Ring.bits (R.Ring.mul ring.now) constant (a % 2 ^ pairing_bits R.Ring.bits) (b % 2 ^ pairing_bits R.Ring.bits) }
-{
-    multiply_halves(ring, constant, a, b)
-}
-
-fn pair_inverse<R: Ring>(ring: &R, constant: u8, a: u8) -> Option<u8>
-    requires { R.Ring.bits < 8 }
-    ensures { Inverts (pairing_bits R.Ring.bits) 1 (pairing_mul R.Ring.bits (R.Ring.mul ring.now) constant) (a % 2 ^ pairing_bits R.Ring.bits) result }
-{
-    match ring.inverse(pair_norm(ring, constant, a)) {
-        Some(m) => Some(divide_halves(ring, a, m)),
-        None => None,
-    }
-}
-
-// The quadratic form of the halves that is the norm.
-fn norm_form<R: Ring>(ring: &R, constant: u8, a: u8) -> u8
-    requires { R.Ring.bits < 8 }
-    ensures { result ≡ form (lows R.Ring.bits (R.Ring.mul ring.now)) constant (a / 2 ^ R.Ring.bits) a }
-{
-    let a1 = a >> R::bit_width();
-    let low_square = ring.product(a, a);
-    let cross = ring.product(a, a1);
-    let high_square = ring.product(a1, a1);
-    let carry = ring.product(constant, high_square);
-    low_square ^ cross ^ carry
-}
-
-// The product by the halves.
-fn multiply_halves<R: Ring>(ring: &R, constant: u8, a: u8, b: u8) -> u8
-    requires { R.Ring.bits < 8 }
-    ensures { result ≡ schoolbook R.Ring.bits (lows R.Ring.bits (R.Ring.mul ring.now)) constant (a / 2 ^ R.Ring.bits) a (b / 2 ^ R.Ring.bits) b }
-{
-    let w = R::bit_width();
-    let a1 = a >> w;
-    let b1 = b >> w;
-    let top = ring.product(a1, b1);
-    let left = ring.product(a1, b);
-    let right = ring.product(a, b1);
-    let bottom = ring.product(a, b);
-    let carry = ring.product(constant, top);
-    join(w, top ^ left ^ right, bottom ^ carry)
-}
-
-// The halves of the inverse, where m is the norm's inverse: r1 m, and (r0 + r1) m.
-fn divide_halves<R: Ring>(ring: &R, a: u8, m: u8) -> u8
-    requires { R.Ring.bits < 8 }
-    ensures { result ≡ by_norm R.Ring.bits (lows R.Ring.bits (R.Ring.mul ring.now)) (a / 2 ^ R.Ring.bits) a m }
-{
-    let w = R::bit_width();
-    let a1 = a >> w;
-    let high = ring.product(a1, m);
-    let low = ring.product(a ^ a1, m);
-    join(w, high, low)
+#[derive(Drop)]
+pub struct Pairing<R> {
+    below: R,
+    constant: u8,
 }
 
 impl<R: Ring> Pairing<R> {
@@ -155,35 +138,38 @@ impl<R: Ring> Pairing<R> {
         Pairing { below, constant }
     }
 
+    // The same pairing over the ring below, lent.
+    fn lend(&self) -> Lent<'_, R>
+        ensures below { result.below.now ≡ self.now.below }
+        ensures constant { result.constant ≡ self.now.constant }
+    {
+        Lent::new(&self.below, self.constant)
+    }
+
     // The norm, a code of the ring below, which has an inverse there just if `a` has one here.
     pub fn norm(&self, a: u8) -> u8
-        ensures { Normed R.Ring.bits 1 (R.Ring.mul self.now.below) self.now.constant (a % 2 ^ pairing_bits R.Ring.bits) result }
+        ensures { Normed R.Ring.WIDTH 1 (R.Ring.mul self.now.below) self.now.constant (a % 2 ^ pairing_bits R.Ring.WIDTH) result }
     {
-        norm_over(&self.below, self.constant, a)
+        self.lend().norm(a)
     }
 }
 
 impl<R: Ring> Ring for Pairing<R> {
     const WIDTH: u32 = R::WIDTH.wrapping_add(R::WIDTH & 6);
 
-    ghost bits = { pairing_bits R.Ring.bits };
+    ghost WIDTH = { pairing_bits R.Ring.WIDTH };
 
-    ghost mul = { λ p. pairing_mul R.Ring.bits (R.Ring.mul p.below) p.constant };
+    ghost mul = { λ p. pairing_mul R.Ring.WIDTH (R.Ring.mul p.below) p.constant };
 
     ghost narrow = { Prim.search rules };
 
-    ghost laws = { λ p. pairing_laws R.Ring.bits 1 (R.Ring.mul p.below) p.constant R.Ring.narrow (R.Ring.laws p.below) };
-
-    fn bit_width() -> u32 {
-        let w = R::bit_width();
-        w.wrapping_add(w & 6)
-    }
+    ghost laws = { λ p. pairing_laws R.Ring.WIDTH 1 (R.Ring.mul p.below) p.constant R.Ring.narrow (R.Ring.laws p.below) };
 
     fn product(&self, a: u8, b: u8) -> u8 {
-        product_over(&self.below, self.constant, a, b)
+        self.lend().product(a, b)
     }
 
     fn inverse(&self, a: u8) -> Option<u8> {
-        inverse_over(&self.below, self.constant, a)
+        self.lend().inverse(a)
     }
 }

@@ -8,61 +8,54 @@ ghost use Rattle.rings.specs.QuarticDegrees.{of_degree};
 
 use crate::Ring;
 
-// Times the indeterminate, modulo m, which is of degree w.
-fn times_x(w: u32, m: u16, v: u16) -> u16
-    requires narrow { w ≤ 8 }
-    requires degree { m / 2 ^ w ≡ 1 }
-    requires code { v < 2 ^ w }
-    ensures { result ≡ times_x w m v }
-{
-    let t = v * 2;
-    if (t >> w) & 1 == 1 { t ^ m } else { t }
+// A modulus of degree W.
+#[derive(Clone, Copy)]
+struct Modulus<const W: u32> {
+    bits: u16,
+    ghost narrow: { W ≤ 8 },
+    ghost degree: { bits / 2 ^ W ≡ 1 },
 }
 
-// The product modulo m, which is of degree w, by Horner's rule: the one code that differs from the product of the
-// polynomials by a multiple of m.
-fn multiply(w: u32, m: u16, a: u8, b: u8) -> u8
-    requires narrow { w ≤ 8 }
-    requires degree { m / 2 ^ w ≡ 1 }
-    requires code { b < 2 ^ w }
-    ensures value { result ≡ mul_mod w m a b }
-    ensures remainder { Remainder w m a b result }
-{
-    let mut r = 0;
-    for i in (0..w).rev() {
-        r = times_x(w, m, r);
-        if (a >> i) & 1 == 1 {
-            r ^= b as u16;
-        }
+impl<const W: u32> Modulus<W> {
+    // Times the indeterminate.
+    fn times_x(&self, v: u16) -> u16
+        requires { v < 2 ^ W }
+        ensures { result ≡ times_x W self.now.bits v }
+    {
+        let t = v * 2;
+        if (t >> W) & 1 == 1 { t ^ self.bits } else { t }
     }
-    r as u8
-}
 
-// 2 to the power of a width.
-fn size(w: u32) -> u16
-    requires { w ≤ 8 }
-    ensures { result ≡ 2 ^ w }
-{
-    1 << w
-}
+    // The product, by Horner's rule: the one code that differs from the product of the polynomials by a multiple of the modulus.
+    fn multiply(&self, a: u8, b: u8) -> u8
+        requires { b < 2 ^ W }
+        ensures value { result ≡ mul_mod W self.now.bits a b }
+        ensures remainder { Remainder W self.now.bits a b result }
+    {
+        let mut r = 0;
+        for i in (0..W).rev() {
+            r = self.times_x(r);
+            if (a >> i) & 1 == 1 {
+                r ^= b as u16;
+            }
+        }
+        r as u8
+    }
 
-// The low bits of a code, as many as the width.
-fn low_bits(w: u32, a: u8) -> u8
-    requires { w ≤ 8 }
-    ensures { result ≡ a % 2 ^ w }
-{
-    let mask = size(w) - 1;
-    (a as u16 & mask) as u8
-}
+    // The low bits of a code, as many as the width.
+    fn low_bits(&self, a: u8) -> u8
+        ensures { result ≡ a % 2 ^ W }
+    {
+        (a as u16 % (1 << W)) as u8
+    }
 
-// The same of the low bits of two codes.
-fn product_mod(w: u32, m: u16, a: u8, b: u8) -> u8
-    requires narrow { w ≤ 8 }
-    requires degree { m / 2 ^ w ≡ 1 }
-    ensures value { result ≡ mul_mod w m (a % 2 ^ w) (b % 2 ^ w) }
-    ensures remainder { Remainder w m (a % 2 ^ w) (b % 2 ^ w) result }
-{
-    multiply(w, m, low_bits(w, a), low_bits(w, b))
+    // The product of the low bits of two codes.
+    fn product(&self, a: u8, b: u8) -> u8
+        ensures value { result ≡ mul_mod W self.now.bits (a % 2 ^ W) (b % 2 ^ W) }
+        ensures remainder { Remainder W self.now.bits (a % 2 ^ W) (b % 2 ^ W) result }
+    {
+        self.multiply(self.low_bits(a), self.low_bits(b))
+    }
 }
 
 // The field of four: code 2 is V, whose square is V + 1.
@@ -72,7 +65,7 @@ pub struct Four;
 impl Ring for Four {
     const WIDTH: u32 = 2;
 
-    ghost bits = { 2 };
+    ghost WIDTH = { 2 };
 
     ghost mul = { λ _. mul_mod 2 7 };
 
@@ -80,15 +73,11 @@ impl Ring for Four {
 
     ghost laws = { λ r. mul_mod_laws 2 7 refl (lit< tt) };
 
-    fn bit_width() -> u32 {
-        Self::WIDTH
-    }
-
     fn product(&self, a: u8, b: u8) -> u8
         ensures value { result ≡ mul_mod 2 7 (a % 2 ^ 2) (b % 2 ^ 2) }
         ensures remainder { Remainder 2 7 (a % 2 ^ 2) (b % 2 ^ 2) result }
     {
-        product_mod(2, 7, a, b)
+        Modulus::<2> { bits: 7 }.product(a, b)
     }
 }
 
@@ -116,7 +105,7 @@ impl Quartic {
 impl Ring for Quartic {
     const WIDTH: u32 = 4;
 
-    ghost bits = { 4 };
+    ghost WIDTH = { 4 };
 
     ghost mul = { λ r. mul_mod 4 (modulus_of r) };
 
@@ -124,15 +113,12 @@ impl Ring for Quartic {
 
     ghost laws = { λ r. mul_mod_laws 4 (modulus_of r) (of_degree r) (lit< tt) };
 
-    fn bit_width() -> u32 {
-        Self::WIDTH
-    }
-
     fn product(&self, a: u8, b: u8) -> u8
         ensures value { result ≡ mul_mod 4 (modulus_of self.now) (a % 2 ^ 4) (b % 2 ^ 4) }
         ensures remainder { Remainder 4 (modulus_of self.now) (a % 2 ^ 4) (b % 2 ^ 4) result }
     {
-        product_mod(4, self.modulus(), a, b)
+        let bits = self.modulus();
+        Modulus::<4> { bits }.product(a, b)
     }
 }
 
@@ -157,7 +143,7 @@ impl Octic {
 impl Ring for Octic {
     const WIDTH: u32 = 8;
 
-    ghost bits = { 8 };
+    ghost WIDTH = { 8 };
 
     ghost mul = { λ r. mul_mod 8 r.modulus };
 
@@ -165,14 +151,10 @@ impl Ring for Octic {
 
     ghost laws = { λ r. mul_mod_laws 8 r.modulus r.degree (lit< tt) };
 
-    fn bit_width() -> u32 {
-        Self::WIDTH
-    }
-
     fn product(&self, a: u8, b: u8) -> u8
         ensures value { result ≡ mul_mod 8 self.now.modulus (a % 2 ^ 8) (b % 2 ^ 8) }
         ensures remainder { Remainder 8 self.now.modulus (a % 2 ^ 8) (b % 2 ^ 8) result }
     {
-        product_mod(8, self.modulus, a, b)
+        Modulus::<8> { bits: self.modulus }.product(a, b)
     }
 }

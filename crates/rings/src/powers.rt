@@ -56,17 +56,13 @@ fn inverse_by_powers(a: u8) -> Option<u8>
 impl Ring for Powers13 {
     const WIDTH: u32 = 4;
 
-    ghost bits = { 4 };
+    ghost WIDTH = { 4 };
 
     ghost mul = { λ _. mul_mod 4 0x13 };
 
     ghost narrow = { Prim.search rules };
 
     ghost laws = { λ r. mul_mod_laws 4 0x13 refl (lit< tt) };
-
-    fn bit_width() -> u32 {
-        Self::WIDTH
-    }
 
     fn product(&self, a: u8, b: u8) -> u8 {
         by_powers(a % 16, b % 16)

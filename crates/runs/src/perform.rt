@@ -24,7 +24,7 @@ pub trait Perform {
         heap: Global,
         ends: &mut Watch<X, Y>,
     ) -> Result<Line, AllocError>
-        ensures { IfOk result (λ l. Entered (world (kind X.Ring.bits X.Ring.mul) (kind Y.Ring.bits Y.Ring.mul) ends.old) (item self.now) l (world (kind X.Ring.bits X.Ring.mul) (kind Y.Ring.bits Y.Ring.mul) ends.new)) };
+        ensures { IfOk result (λ l. Entered (world (kind X.Ring.WIDTH X.Ring.mul) (kind Y.Ring.WIDTH Y.Ring.mul) ends.old) (item self.now) l (world (kind X.Ring.WIDTH X.Ring.mul) (kind Y.Ring.WIDTH Y.Ring.mul) ends.new)) };
 }
 
 impl Perform for FitEntry {
@@ -69,7 +69,7 @@ fn carry<X: Ring, Y: Ring>(
     bytes: &mut [u8],
 ) -> Result<Passed, Refusal>
     requires { bytes.old ≡ first.now }
-    ensures { Entered (world (kind X.Ring.bits X.Ring.mul) (kind Y.Ring.bits Y.Ring.mul) ends.old) (sector_item side first.now) (Sector side result) (world (kind X.Ring.bits X.Ring.mul) (kind Y.Ring.bits Y.Ring.mul) ends.new) }
+    ensures { Entered (world (kind X.Ring.WIDTH X.Ring.mul) (kind Y.Ring.WIDTH Y.Ring.mul) ends.old) (sector_item side first.now) (Sector side result) (world (kind X.Ring.WIDTH X.Ring.mul) (kind Y.Ring.WIDTH Y.Ring.mul) ends.new) }
 {
     let ticket = ends.draw(side)?;
     let name = ticket.name();

@@ -23,7 +23,7 @@ fn perform_all<E: Perform, X: Ring, Y: Ring>(
     entries: &[E],
     lines: &mut Vec<Line>,
 ) -> Result<(), AllocError>
-    ensures { OnOk result (Extended (world (kind X.Ring.bits X.Ring.mul) (kind Y.Ring.bits Y.Ring.mul) ends.old) (map E.Perform.item entries.now) lines.old.items lines.new.items (world (kind X.Ring.bits X.Ring.mul) (kind Y.Ring.bits Y.Ring.mul) ends.new)) }
+    ensures { OnOk result (Extended (world (kind X.Ring.WIDTH X.Ring.mul) (kind Y.Ring.WIDTH Y.Ring.mul) ends.old) (map E.Perform.item entries.now) lines.old.items lines.new.items (world (kind X.Ring.WIDTH X.Ring.mul) (kind Y.Ring.WIDTH Y.Ring.mul) ends.new)) }
 {
     for e in entries {
         let line = e.perform(heap, ends)?;

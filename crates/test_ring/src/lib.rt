@@ -36,17 +36,13 @@ pub struct Exchanged;
 impl Ring for Exchanged {
     const WIDTH: u32 = 4;
 
-    ghost bits = { 4 };
+    ghost WIDTH = { 4 };
 
     ghost mul = { λ _. exchanged_mul };
 
     ghost narrow = { Prim.search rules };
 
     ghost laws = { λ r. exchanged_laws };
-
-    fn bit_width() -> u32 {
-        Self::WIDTH
-    }
 
     fn product(&self, a: u8, b: u8) -> u8 {
         by_ring_13(a % 16, b % 16)

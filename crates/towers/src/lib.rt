@@ -19,8 +19,8 @@ pub mod trail;
 
 // Whether every code but 0 has an inverse.
 fn all_invertible<R: Ring>(ring: &R) -> bool
-    requires { R.Ring.bits ≡ 4 }
-    ensures { Whether (Field R.Ring.bits 1 (R.Ring.mul ring.now)) result }
+    requires { R.Ring.WIDTH ≡ 4 }
+    ensures { Whether (Field R.Ring.WIDTH 1 (R.Ring.mul ring.now)) result }
 {
     for a in 1..16 {
         if ring.inverse(a).is_none() {
@@ -32,15 +32,15 @@ fn all_invertible<R: Ring>(ring: &R) -> bool
 
 // Whether the ring is a field of width 4.
 pub fn is_field<R: Ring>(ring: &R) -> bool
-    ensures { Whether (Sixteen R.Ring.bits (R.Ring.mul ring.now)) result }
+    ensures { Whether (Sixteen R.Ring.WIDTH (R.Ring.mul ring.now)) result }
 {
-    R::bit_width() == 4 && all_invertible(ring)
+    R::WIDTH == 4 && all_invertible(ring)
 }
 
 // Of all lawful pairs of the ring and the octic, the one with the fewest ones; among equals the smaller constant wins, then
 // the smaller column where they first differ.
 pub fn fit<R: Ring>(ring: &R, octic: u16) -> Result<Pair, Refusal>
-    ensures { Fitted R.Ring.bits (R.Ring.mul ring.now) octic result }
+    ensures { Fitted R.Ring.WIDTH (R.Ring.mul ring.now) octic result }
 {
     if !is_field(ring) {
         return Err(Refusal::NotField);

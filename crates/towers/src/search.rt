@@ -22,7 +22,7 @@ struct Basis {
 
 // Whether g is a root of z⁴ + z + 1.
 fn is_root<R: Ring>(ring: &R, g: u8) -> bool
-    requires { g < 2 ^ R.Ring.bits }
+    requires { g < 2 ^ R.Ring.WIDTH }
     ensures { Whether (IsRoot 1 (R.Ring.mul ring.now) g) result }
 {
     let square = ring.product(g, g);
@@ -31,7 +31,7 @@ fn is_root<R: Ring>(ring: &R, g: u8) -> bool
 
 // The powers 0 to 3 of g.
 fn powers<R: Ring>(ring: &R, g: u8) -> [u8; 4]
-    requires { g < 2 ^ R.Ring.bits }
+    requires { g < 2 ^ R.Ring.WIDTH }
     ensures { result ≡ powers_of 1 (R.Ring.mul ring.now) g }
 {
     let square = ring.product(g, g);
@@ -40,7 +40,7 @@ fn powers<R: Ring>(ring: &R, g: u8) -> [u8; 4]
 
 // A root of z⁴ + z + 1, which every field of sixteen codes has.
 fn root<R: Ring>(ring: &R) -> u8
-    requires { Sixteen R.Ring.bits (R.Ring.mul ring.now) }
+    requires { Sixteen R.Ring.WIDTH (R.Ring.mul ring.now) }
     ensures code { result < 16 }
     ensures is { IsRoot 1 (R.Ring.mul ring.now) result }
 {
@@ -54,7 +54,7 @@ fn root<R: Ring>(ring: &R) -> u8
 
 impl Basis {
     fn of<R: Ring>(ring: &R) -> Basis
-        requires { Sixteen R.Ring.bits (R.Ring.mul ring.now) }
+        requires { Sixteen R.Ring.WIDTH (R.Ring.mul ring.now) }
         ensures { Based (R.Ring.mul ring.now) result.powers result.coordinates }
     {
         let powers = powers(ring, root(ring));
@@ -170,7 +170,7 @@ fn search(octic: &Octic, basis: &Basis) -> Option<Pair>
 
 // The least lawful pair, which every field of sixteen codes and every accepted octic have.
 pub(crate) fn least<R: Ring>(ring: &R, octic: u16) -> Pair
-    requires field { Sixteen R.Ring.bits (R.Ring.mul ring.now) }
+    requires field { Sixteen R.Ring.WIDTH (R.Ring.mul ring.now) }
     requires accepted { Accepted octic }
     ensures { Keeps (R.Ring.mul ring.now) octic result }
 {

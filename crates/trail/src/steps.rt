@@ -2,7 +2,7 @@
 ghost use Rattle.trail.specs.Steps.{Way};
 
 use rings::Ring;
-use rings::pairing::norm_over;
+use rings::pairing::Lent;
 use rings::poly::Quartic;
 use towers::boxed::box_a;
 use towers::pair::Pair;
@@ -23,7 +23,7 @@ pub(crate) fn follow(pair: &Pair, byte: u8) -> Steps
 {
     let ring = Quartic::Ring13;
     let trail = trail_of(&ring, pair, byte);
-    let norm = norm_over(&ring, pair.constant, trail.code);
+    let norm = Lent::new(&ring, pair.constant).norm(trail.code);
     Steps {
         byte,
         trail,

@@ -21,7 +21,7 @@ pub fn round_trip<X: Ring + Drop, Y: Ring + Drop>(
     bytes: &mut [u8],
 ) -> Result<(), Refusal>
     ensures back { bytes.new ≡ bytes.old }
-    ensures answer { Trips (over X.Ring.bits (X.Ring.mul x)) (over Y.Ring.bits (Y.Ring.mul y)) octic letter key.now work.old bytes.old result work.new }
+    ensures answer { Trips (over X.Ring.WIDTH (X.Ring.mul x)) (over Y.Ring.WIDTH (Y.Ring.mul y)) octic letter key.now work.old bytes.old result work.new }
 {
     let mut w = Watch::new(x, 1, 0, y, 2, 0);
     w.fit(Side::First, octic)?;

@@ -31,7 +31,7 @@ fn each_call_shows()
 impl<X: Ring, Y: Ring> Watch<X, Y> {
     // Two ends just made, each over its own ring. Whatever calls follow, every log of two ends of different names shows the promise.
     pub fn new(x: X, name_x: u16, first_x: u64, y: Y, name_y: u16, first_y: u64) -> Self
-        ensures starts { Starts (kind X.Ring.bits X.Ring.mul) (kind Y.Ring.bits Y.Ring.mul) (fresh (kind X.Ring.bits X.Ring.mul) x name_x first_x) (fresh (kind Y.Ring.bits Y.Ring.mul) y name_y first_y) result }
+        ensures starts { Starts (kind X.Ring.WIDTH X.Ring.mul) (kind Y.Ring.WIDTH Y.Ring.mul) (fresh (kind X.Ring.WIDTH X.Ring.mul) x name_x first_x) (fresh (kind Y.Ring.WIDTH Y.Ring.mul) y name_y first_y) result }
         ensures promise { EveryLogShows }
     {
         every_log_shows();
@@ -43,7 +43,7 @@ impl<X: Ring, Y: Ring> Watch<X, Y> {
 
     // Passes a fit on to an end.
     pub fn fit(&mut self, side: Side, octic: u16) -> Result<Answer, Refusal>
-        ensures { Passes (kind X.Ring.bits X.Ring.mul) (kind Y.Ring.bits Y.Ring.mul) self.old (entry side (fitting octic result)) self.new }
+        ensures { Passes (kind X.Ring.WIDTH X.Ring.mul) (kind Y.Ring.WIDTH Y.Ring.mul) self.old (entry side (fitting octic result)) self.new }
     {
         each_call_shows();
         match side {
@@ -60,7 +60,7 @@ impl<X: Ring, Y: Ring> Watch<X, Y> {
         key: &[u8],
         work: &mut [u8],
     ) -> Result<(), Refusal>
-        ensures { Passes (kind X.Ring.bits X.Ring.mul) (kind Y.Ring.bits Y.Ring.mul) self.old (entry side (keying letter key.now work.old work.new result)) self.new }
+        ensures { Passes (kind X.Ring.WIDTH X.Ring.mul) (kind Y.Ring.WIDTH Y.Ring.mul) self.old (entry side (keying letter key.now work.old work.new result)) self.new }
     {
         each_call_shows();
         match side {
@@ -71,7 +71,7 @@ impl<X: Ring, Y: Ring> Watch<X, Y> {
 
     // Draws a ticket at an end.
     pub fn draw(&mut self, side: Side) -> Result<Ticket, Refusal>
-        ensures { Passes (kind X.Ring.bits X.Ring.mul) (kind Y.Ring.bits Y.Ring.mul) self.old (entry side (drawing result)) self.new }
+        ensures { Passes (kind X.Ring.WIDTH X.Ring.mul) (kind Y.Ring.WIDTH Y.Ring.mul) self.old (entry side (drawing result)) self.new }
     {
         each_call_shows();
         match side {
@@ -82,7 +82,7 @@ impl<X: Ring, Y: Ring> Watch<X, Y> {
 
     // Seals at an end.
     pub fn seal(&self, side: Side, ticket: Ticket, bytes: &mut [u8]) -> Result<(), Refusal>
-        ensures { Passes (kind X.Ring.bits X.Ring.mul) (kind Y.Ring.bits Y.Ring.mul) self.now (entry side (sealing ticket bytes.old bytes.new result)) self.now }
+        ensures { Passes (kind X.Ring.WIDTH X.Ring.mul) (kind Y.Ring.WIDTH Y.Ring.mul) self.now (entry side (sealing ticket bytes.old bytes.new result)) self.now }
     {
         each_call_shows();
         match side {
@@ -93,7 +93,7 @@ impl<X: Ring, Y: Ring> Watch<X, Y> {
 
     // Opens at an end.
     pub fn open(&self, side: Side, name: u16, number: u64, bytes: &mut [u8]) -> Result<(), Refusal>
-        ensures { Passes (kind X.Ring.bits X.Ring.mul) (kind Y.Ring.bits Y.Ring.mul) self.now (entry side (opening name number bytes.old bytes.new result)) self.now }
+        ensures { Passes (kind X.Ring.WIDTH X.Ring.mul) (kind Y.Ring.WIDTH Y.Ring.mul) self.now (entry side (opening name number bytes.old bytes.new result)) self.now }
     {
         each_call_shows();
         match side {
@@ -104,7 +104,7 @@ impl<X: Ring, Y: Ring> Watch<X, Y> {
 
     // Wipes an end.
     pub fn wipe(&mut self, side: Side)
-        ensures { Passes (kind X.Ring.bits X.Ring.mul) (kind Y.Ring.bits Y.Ring.mul) self.old (entry side wiping) self.new }
+        ensures { Passes (kind X.Ring.WIDTH X.Ring.mul) (kind Y.Ring.WIDTH Y.Ring.mul) self.old (entry side wiping) self.new }
     {
         each_call_shows();
         match side {
@@ -115,7 +115,7 @@ impl<X: Ring, Y: Ring> Watch<X, Y> {
 
     // Has an end tell its pair.
     pub fn tell(&self, side: Side, told: &mut Told) -> Result<(), Refusal>
-        ensures { Passes (kind X.Ring.bits X.Ring.mul) (kind Y.Ring.bits Y.Ring.mul) self.now (entry side (telling told.old told.new result)) self.now }
+        ensures { Passes (kind X.Ring.WIDTH X.Ring.mul) (kind Y.Ring.WIDTH Y.Ring.mul) self.now (entry side (telling told.old told.new result)) self.now }
     {
         each_call_shows();
         match side {

@@ -31,8 +31,8 @@ returns-clause-back g c =
 pub returns-in_err-fit-clause-answer : goal.returns-in_err-fit-clause-answer
 returns-in_err-fit-clause-answer g c =
     let p = err_from_is_err_and c.from_residual.result c.from_residual.ensures.1 in
-    let x = over g.X.Ring.bits (g.X.Ring.mul c.args.x) in
-    let y = over g.Y.Ring.bits (g.Y.Ring.mul c.args.y) in
+    let x = over g.X.Ring.WIDTH (g.X.Ring.mul c.args.x) in
+    let y = over g.Y.Ring.WIDTH (g.Y.Ring.mul c.args.y) in
     rw (p.1, p.2)
     (first_refused x y c.args.octic c.args.letter c.args.key.now c.args.work.now c.args.bytes.now
     c.new-w.ensures.starts.first c.fit.ensures.goes c.in_err-fit.was)
@@ -40,8 +40,8 @@ returns-in_err-fit-clause-answer g c =
 pub returns-in_err-fit-2-clause-answer : goal.returns-in_err-fit-2-clause-answer
 returns-in_err-fit-2-clause-answer g c =
     let p = err_from_is_err_and c.from_residual-in_err-fit-2.result c.from_residual-in_err-fit-2.ensures.1 in
-    let x = over g.X.Ring.bits (g.X.Ring.mul c.args.x) in
-    let y = over g.Y.Ring.bits (g.Y.Ring.mul c.args.y) in
+    let x = over g.X.Ring.WIDTH (g.X.Ring.mul c.args.x) in
+    let y = over g.Y.Ring.WIDTH (g.Y.Ring.mul c.args.y) in
     rw (p.1, p.2)
     (second_refused x y c.args.octic c.args.letter c.args.key.now c.args.work.now c.args.bytes.now
     c.new-w.ensures.starts.first c.new-w.ensures.starts.second c.fit.ensures.goes c.in_ok-fit.was c.fit-2.ensures.goes c.in_err-fit-2.was)
@@ -49,8 +49,8 @@ returns-in_err-fit-2-clause-answer g c =
 pub returns-in_err-key-clause-answer : goal.returns-in_err-key-clause-answer
 returns-in_err-key-clause-answer g c =
     let p = err_from_is_err_and c.from_residual-in_err-key.result c.from_residual-in_err-key.ensures.1 in
-    let x = over g.X.Ring.bits (g.X.Ring.mul c.args.x) in
-    let y = over g.Y.Ring.bits (g.Y.Ring.mul c.args.y) in
+    let x = over g.X.Ring.WIDTH (g.X.Ring.mul c.args.x) in
+    let y = over g.Y.Ring.WIDTH (g.Y.Ring.mul c.args.y) in
     let two =
     both x y c.args.octic c.args.letter c.args.key.now c.args.work.now c.args.bytes.now
     c.new-w.ensures.starts.first c.new-w.ensures.starts.second c.fit.ensures.goes c.in_ok-fit.was c.fit-2.ensures.goes c.in_ok-fit-2.was in
@@ -61,8 +61,8 @@ returns-in_err-key-clause-answer g c =
 pub returns-in_err-key-2-clause-answer : goal.returns-in_err-key-2-clause-answer
 returns-in_err-key-2-clause-answer g c =
     let p = err_from_is_err_and c.from_residual-in_err-key-2.result c.from_residual-in_err-key-2.ensures.1 in
-    let x = over g.X.Ring.bits (g.X.Ring.mul c.args.x) in
-    let y = over g.Y.Ring.bits (g.Y.Ring.mul c.args.y) in
+    let x = over g.X.Ring.WIDTH (g.X.Ring.mul c.args.x) in
+    let y = over g.Y.Ring.WIDTH (g.Y.Ring.mul c.args.y) in
     let two =
     both x y c.args.octic c.args.letter c.args.key.now c.args.work.now c.args.bytes.now
     c.new-w.ensures.starts.first c.new-w.ensures.starts.second c.fit.ensures.goes c.in_ok-fit.was c.fit-2.ensures.goes c.in_ok-fit-2.was in
@@ -72,8 +72,8 @@ returns-in_err-key-2-clause-answer g c =
 
 pub returns-in_err-t-clause-answer : goal.returns-in_err-t-clause-answer
 returns-in_err-t-clause-answer g c =
-    let x = over g.X.Ring.bits (g.X.Ring.mul c.args.x) in
-    let y = over g.Y.Ring.bits (g.Y.Ring.mul c.args.y) in
+    let x = over g.X.Ring.WIDTH (g.X.Ring.mul c.args.x) in
+    let y = over g.Y.Ring.WIDTH (g.Y.Ring.mul c.args.y) in
     let two =
     both x y c.args.octic c.args.letter c.args.key.now c.args.work.now c.args.bytes.now
     c.new-w.ensures.starts.first c.new-w.ensures.starts.second c.fit.ensures.goes c.in_ok-fit.was c.fit-2.ensures.goes c.in_ok-fit-2.was in
@@ -85,8 +85,8 @@ returns-in_err-t-clause-answer g c =
 pub returns-in_err-seal-clause-answer : goal.returns-in_err-seal-clause-answer
 returns-in_err-seal-clause-answer g c =
     let p = err_from_is_err_and c.from_residual-in_err-seal.result c.from_residual-in_err-seal.ensures.1 in
-    let x = over g.X.Ring.bits (g.X.Ring.mul c.args.x) in
-    let y = over g.Y.Ring.bits (g.Y.Ring.mul c.args.y) in
+    let x = over g.X.Ring.WIDTH (g.X.Ring.mul c.args.x) in
+    let y = over g.Y.Ring.WIDTH (g.Y.Ring.mul c.args.y) in
     let two =
     both x y c.args.octic c.args.letter c.args.key.now c.args.work.now c.args.bytes.now
     c.new-w.ensures.starts.first c.new-w.ensures.starts.second c.fit.ensures.goes c.in_ok-fit.was c.fit-2.ensures.goes c.in_ok-fit-2.was in
@@ -100,8 +100,8 @@ returns-in_err-seal-clause-answer g c =
 
 pub returns-clause-answer : goal.returns-clause-answer
 returns-clause-answer g c =
-    let x = over g.X.Ring.bits (g.X.Ring.mul c.args.x) in
-    let y = over g.Y.Ring.bits (g.Y.Ring.mul c.args.y) in
+    let x = over g.X.Ring.WIDTH (g.X.Ring.mul c.args.x) in
+    let y = over g.Y.Ring.WIDTH (g.Y.Ring.mul c.args.y) in
     let two =
     both x y c.args.octic c.args.letter c.args.key.now c.args.work.now c.args.bytes.now
     c.new-w.ensures.starts.first c.new-w.ensures.starts.second c.fit.ensures.goes c.in_ok-fit.was c.fit-2.ensures.goes c.in_ok-fit-2.was in

@@ -5,5 +5,5 @@ use Rattle.runs.proofs.run.perform_all.Given as goal
 
 abbrev pub invariant-loop-e : goal.invariant-loop-e
 invariant-loop-e g l =
-    Extended (world (kind g.X.Ring.bits g.X.Ring.mul) (kind g.Y.Ring.bits g.Y.Ring.mul) l.initial.ends) (map g.E.Perform.item (take l.e-index l.entries))
-    (vec_items l.initial.lines) (vec_items l.lines) (world (kind g.X.Ring.bits g.X.Ring.mul) (kind g.Y.Ring.bits g.Y.Ring.mul) l.ends)
+    Extended (world (kind g.X.Ring.WIDTH g.X.Ring.mul) (kind g.Y.Ring.WIDTH g.Y.Ring.mul) l.initial.ends) (map g.E.Perform.item (take l.e-index l.entries))
+    (vec_items l.initial.lines) (vec_items l.lines) (world (kind g.X.Ring.WIDTH g.X.Ring.mul) (kind g.Y.Ring.WIDTH g.Y.Ring.mul) l.ends)

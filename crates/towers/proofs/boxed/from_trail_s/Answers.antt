@@ -6,7 +6,7 @@ use Rattle.towers.proofs.boxed.from_trail_s.Goals as goal
 
 pub returns : goal.returns
 returns g c =
-    let w = g.R.Ring.bits in
+    let w = g.R.Ring.WIDTH in
     let mul = g.R.Ring.mul c.args.ring.now in
     let p = c.args.pair.now in
     let t = c.args.trail in

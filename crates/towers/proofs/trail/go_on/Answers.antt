@@ -9,11 +9,11 @@ pub returns : goal.returns
 returns g c =
     let mul = g.R.Ring.mul c.args.ring.now in
     let t : Trail = record { code = c.args.code; inverse = c.tower_inverse-inverse.result; byte = c.combine.result } in
-    let walks : Trails g.R.Ring.bits mul c.args.pair.now c.args.byte t = record { code = c.requires; inverse = c.tower_inverse-inverse.ensures; byte = c.combine.ensures } in
+    let walks : Trails g.R.Ring.WIDTH mul c.args.pair.now c.args.byte t = record { code = c.requires; inverse = c.tower_inverse-inverse.ensures; byte = c.combine.ensures } in
     let laws = g.met.R.Ring.laws c.args.ring.now in
-    let through = through g.R.Ring.bits mul c.args.pair.now c.args.byte t laws (omega arith) (omega arith) walks in
+    let through = through g.R.Ring.WIDTH mul c.args.pair.now c.args.byte t laws (omega arith) (omega arith) walks in
     record {
       walks = walks;
       through = through;
-      arrives = arrives g.R.Ring.bits mul c.args.pair.now c.args.byte c.combine.result laws (omega arith) through;
+      arrives = arrives g.R.Ring.WIDTH mul c.args.pair.now c.args.byte c.combine.result laws (omega arith) through;
     }
