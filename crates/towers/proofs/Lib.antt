@@ -11,6 +11,7 @@ pub mod Halves
 mod Carry
 mod Index
 pub mod Octics
+mod Compare
 mod Complete
 pub mod OneGoes
 pub mod Reverses

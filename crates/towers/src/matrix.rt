@@ -37,26 +37,14 @@ pub(crate) fn preimage(columns: &[u8], bound: u16, code: u8) -> u8
     requires few { bound ≤ 256 }
     ensures { Solves columns.now bound code result }
 {
-    match solve(columns, bound, code) {
-        Some(v) => v,
-        None => 0,
-    }
+    solve(columns, bound, code).unwrap_or(0)
 }
 
 // The columns of the reverse matrix.
 pub(crate) fn reverse(columns: &[u8; 8]) -> [u8; 8]
     ensures { Reversed 8 columns.now result }
 {
-    [
-        preimage(columns, 256, 1),
-        preimage(columns, 256, 2),
-        preimage(columns, 256, 4),
-        preimage(columns, 256, 8),
-        preimage(columns, 256, 16),
-        preimage(columns, 256, 32),
-        preimage(columns, 256, 64),
-        preimage(columns, 256, 128),
-    ]
+    [1, 2, 4, 8, 16, 32, 64, 128].map(|code| preimage(columns, 256, code))
 }
 
 // The entries 1.

@@ -1,5 +1,4 @@
 // A lawful pair, told by numbers.
-ghost use Rattle.towers.specs.Order.{Lex};
 ghost use Rattle.towers.specs.Search.{Precedes};
 ghost use Rattle.towers.specs.Tests.{Whether};
 
@@ -18,24 +17,6 @@ impl Pair {
     pub fn precedes(&self, other: &Pair) -> bool
         ensures { Whether (Precedes self.now other.now) result }
     {
-        if self.ones != other.ones {
-            return self.ones < other.ones;
-        }
-        if self.constant != other.constant {
-            return self.constant < other.constant;
-        }
-        smaller(&self.columns, &other.columns)
+        (self.ones, self.constant, self.columns) < (other.ones, other.constant, other.columns)
     }
-}
-
-// Whether the first columns have the smaller one at the first place where they differ.
-fn smaller(left: &[u8; 8], right: &[u8; 8]) -> bool
-    ensures { Whether (Lex left.now right.now) result }
-{
-    for i in 0..8 {
-        if left[i] != right[i] {
-            return left[i] < right[i];
-        }
-    }
-    false
 }

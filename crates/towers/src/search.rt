@@ -13,9 +13,10 @@ use crate::pair::Pair;
 use rings::Ring;
 use rings::poly::Octic;
 
-// The powers of a root in the ring, and the codes 1, 2, 4 and 8 as polynomials in it.
+// A search: the octic's ring, the powers of a root in the tower's ring, and the codes 1, 2, 4 and 8 as polynomials in that root.
 #[derive(Drop)]
-struct Basis {
+struct Search {
+    octic: Octic,
     powers: [u8; 4],
     coordinates: [u8; 4],
 }
@@ -52,74 +53,6 @@ fn root<R: Ring>(ring: &R) -> u8
     unreachable()
 }
 
-impl Basis {
-    fn of<R: Ring>(ring: &R) -> Basis
-        requires { Sixteen R.Ring.WIDTH (R.Ring.mul ring.now) }
-        ensures { Based (R.Ring.mul ring.now) result.powers result.coordinates }
-    {
-        let powers = powers(ring, root(ring));
-        let coordinates = [
-            preimage(&powers, 16, 1),
-            preimage(&powers, 16, 2),
-            preimage(&powers, 16, 4),
-            preimage(&powers, 16, 8),
-        ];
-        Basis {
-            powers,
-            coordinates,
-        }
-    }
-}
-
-// The product in the octic's ring.
-fn times(octic: &Octic, a: u8, b: u8) -> u8
-    ensures { result ≡ mul_mod 8 octic.now.modulus a b }
-{
-    octic.product(a, b)
-}
-
-// The pair at a byte y and the powers of a byte r, where y y + y is the polynomial u in r.
-fn pair_at(octic: &Octic, basis: &Basis, powers: &[u8; 4], y: u8, u: u8) -> Pair
-    ensures { Built basis.now.powers basis.now.coordinates powers.now (mul_mod 8 octic.now.modulus) y u result }
-{
-    let one = combine(powers, basis.coordinates[0]);
-    let two = combine(powers, basis.coordinates[1]);
-    let four = combine(powers, basis.coordinates[2]);
-    let eight = combine(powers, basis.coordinates[3]);
-    let columns = [
-        one,
-        two,
-        four,
-        eight,
-        times(octic, y, one),
-        times(octic, y, two),
-        times(octic, y, four),
-        times(octic, y, eight),
-    ];
-    let reverse = reverse(&columns);
-    Pair {
-        constant: combine(&basis.powers, u),
-        ones: count(&columns) + count(&reverse),
-        columns,
-        reverse,
-    }
-}
-
-// The lawful pair at the bytes r, a root, and y, if there is one.
-fn visit(octic: &Octic, basis: &Basis, r: u8, y: u8) -> Option<Pair>
-    requires { IsRoot 1 (mul_mod 8 octic.now.modulus) r }
-    ensures { Visited basis.now.powers basis.now.coordinates (mul_mod 8 octic.now.modulus) r y result }
-{
-    let powers = powers(octic, r);
-    if solve(&powers, 16, y).is_some() {
-        return None;
-    }
-    match solve(&powers, 16, times(octic, y, y) ^ y) {
-        Some(u) => Some(pair_at(octic, basis, &powers, y, u)),
-        None => None,
-    }
-}
-
 // The found pair where it comes before the best so far, and else the best so far.
 fn earlier(best: Option<Pair>, found: Pair) -> Pair
     ensures { Earlier best found result }
@@ -130,42 +63,94 @@ fn earlier(best: Option<Pair>, found: Pair) -> Pair
     }
 }
 
-// The best so far, after the byte y beside the root r.
-fn search_place(octic: &Octic, basis: &Basis, r: u8, y: u8, best: Option<Pair>) -> Option<Pair>
-    requires root { IsRoot 1 (mul_mod 8 octic.now.modulus) r }
-    requires least { Least basis.now.powers basis.now.coordinates (mul_mod 8 octic.now.modulus) (r * 256 + y) best }
-    ensures { Least basis.now.powers basis.now.coordinates (mul_mod 8 octic.now.modulus) (r * 256 + (y + 1)) result }
-{
-    match visit(octic, basis, r, y) {
-        Some(found) => Some(earlier(best, found)),
-        None => best,
+impl Search {
+    fn new<R: Ring>(ring: &R, octic: Octic) -> Search
+        requires { Sixteen R.Ring.WIDTH (R.Ring.mul ring.now) }
+        ensures octic { result.octic.modulus ≡ octic.modulus }
+        ensures based { Based (R.Ring.mul ring.now) result.powers result.coordinates }
+    {
+        let powers = powers(ring, root(ring));
+        let coordinates = [1, 2, 4, 8].map(|code| preimage(&powers, 16, code));
+        Search {
+            octic,
+            powers,
+            coordinates,
+        }
     }
-}
 
-// The best so far, after all bytes y beside the byte r; only four bytes are roots.
-fn search_row(octic: &Octic, basis: &Basis, r: u8, start: Option<Pair>) -> Option<Pair>
-    requires { Least basis.now.powers basis.now.coordinates (mul_mod 8 octic.now.modulus) (r * 256) start }
-    ensures { Least basis.now.powers basis.now.coordinates (mul_mod 8 octic.now.modulus) ((r + 1) * 256) result }
-{
-    if !is_root(octic, r) {
-        return start;
+    // The product in the octic's ring.
+    fn times(&self, a: u8, b: u8) -> u8
+        ensures { result ≡ mul_mod 8 self.now.octic.modulus a b }
+    {
+        self.octic.product(a, b)
     }
-    let mut best = start;
-    for y in 0..=255 {
-        best = search_place(octic, basis, r, y, best);
-    }
-    best
-}
 
-// The least pair over all bytes r and y.
-fn search(octic: &Octic, basis: &Basis) -> Option<Pair>
-    ensures { Least basis.now.powers basis.now.coordinates (mul_mod 8 octic.now.modulus) 65536 result }
-{
-    let mut best = None;
-    for r in 0..=255 {
-        best = search_row(octic, basis, r, best);
+    // The pair at a byte y and the powers of a byte r, where y y + y is the polynomial u in r.
+    fn pair_at(&self, powers: &[u8; 4], y: u8, u: u8) -> Pair
+        ensures { Built self.now.powers self.now.coordinates powers.now (mul_mod 8 self.now.octic.modulus) y u result }
+    {
+        let [a, b, c, d] = self.coordinates.map(|v| combine(powers, v));
+        let [e, f, g, h] = [a, b, c, d].map(|column| self.times(y, column));
+        let columns = [a, b, c, d, e, f, g, h];
+        let reverse = reverse(&columns);
+        Pair {
+            constant: combine(&self.powers, u),
+            ones: count(&columns) + count(&reverse),
+            columns,
+            reverse,
+        }
     }
-    best
+
+    // The lawful pair at the bytes r, a root, and y, if there is one.
+    fn visit(&self, r: u8, y: u8) -> Option<Pair>
+        requires { IsRoot 1 (mul_mod 8 self.now.octic.modulus) r }
+        ensures { Visited self.now.powers self.now.coordinates (mul_mod 8 self.now.octic.modulus) r y result }
+    {
+        let powers = powers(&self.octic, r);
+        if solve(&powers, 16, y).is_some() {
+            return None;
+        }
+        let u = solve(&powers, 16, self.times(y, y) ^ y)?;
+        Some(self.pair_at(&powers, y, u))
+    }
+
+    // The best so far, after the byte y beside the root r.
+    fn place(&self, r: u8, y: u8, best: Option<Pair>) -> Option<Pair>
+        requires root { IsRoot 1 (mul_mod 8 self.now.octic.modulus) r }
+        requires least { Least self.now.powers self.now.coordinates (mul_mod 8 self.now.octic.modulus) (r * 256 + y) best }
+        ensures { Least self.now.powers self.now.coordinates (mul_mod 8 self.now.octic.modulus) (r * 256 + (y + 1)) result }
+    {
+        match self.visit(r, y) {
+            Some(found) => Some(earlier(best, found)),
+            None => best,
+        }
+    }
+
+    // The best so far, after all bytes y beside the byte r; only four bytes are roots.
+    fn row(&self, r: u8, start: Option<Pair>) -> Option<Pair>
+        requires { Least self.now.powers self.now.coordinates (mul_mod 8 self.now.octic.modulus) (r * 256) start }
+        ensures { Least self.now.powers self.now.coordinates (mul_mod 8 self.now.octic.modulus) ((r + 1) * 256) result }
+    {
+        if !is_root(&self.octic, r) {
+            return start;
+        }
+        let mut best = start;
+        for y in 0..=255 {
+            best = self.place(r, y, best);
+        }
+        best
+    }
+
+    // The least pair over all bytes r and y.
+    fn least(&self) -> Option<Pair>
+        ensures { Least self.now.powers self.now.coordinates (mul_mod 8 self.now.octic.modulus) 65536 result }
+    {
+        let mut best = None;
+        for r in 0..=255 {
+            best = self.row(r, best);
+        }
+        best
+    }
 }
 
 // The least lawful pair, which every field of sixteen codes and every accepted octic have.
@@ -174,8 +159,7 @@ pub(crate) fn least<R: Ring>(ring: &R, octic: u16) -> Pair
     requires accepted { Accepted octic }
     ensures { Keeps (R.Ring.mul ring.now) octic result }
 {
-    let basis = Basis::of(ring);
-    match search(&Octic::new(octic), &basis) {
+    match Search::new(ring, Octic::new(octic)).least() {
         Some(pair) => pair,
         None => unreachable(),
     }

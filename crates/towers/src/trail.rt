@@ -23,10 +23,7 @@ fn tower_inverse<R: Ring>(ring: &R, constant: u8, code: u8) -> u8
     if R::WIDTH != 4 {
         return 0;
     }
-    match Lent::new(ring, constant).inverse(code) {
-        Some(inverse) => inverse,
-        None => 0,
-    }
+    Lent::new(ring, constant).inverse(code).unwrap_or(0)
 }
 
 // The rest of a byte's trail, from its code on.

@@ -1,7 +1,0 @@
-use Rattle.std.proofs.Common.{◌*◌}
-use Rattle.rings.specs.Poly.{mul_mod}
-use Rattle.towers.specs.Search.{Least}
-use Rattle.towers.proofs.search.search.Given as goal
-
-abbrev pub invariant-loop-r : goal.invariant-loop-r
-invariant-loop-r l = Least l.basis.powers l.basis.coordinates (mul_mod 8 l.octic.modulus) (l.r * 256) l.best
