@@ -1,5 +1,5 @@
 -- What `inverse_mod` is: the inverse that a ring answers, or any byte whose product is 1. Assumes nothing.
-use Rattle.std.proofs.Common.{◌≡◌, ℕ, zero, suc, ◌+◌, ◌/◌, ◌^◌, ◌<◌, ◌≤◌, Bool, true, false, cond, eqb, Some, None, Option, sym, refl, ap, ◌∙◌, arith, lit<, eq-eqb, eqb-true}
+use Rattle.std.proofs.Common.{◌≡◌, ℕ, zero, suc, ◌+◌, ◌/◌, ◌^◌, ◌<◌, ◌≤◌, Bool, true, false, cond, eqb, Some, None, Option, unwrap_or, sym, refl, ap, ◌∙◌, arith, lit<, eq-eqb, eqb-true}
 use Rattle.std.specs.List.{range_with_len}
 use Rattle.rings.specs.Laws.{Inverse, NoInverse, Inverts}
 use Rattle.rings.specs.Poly.{mul_mod}
@@ -45,13 +45,8 @@ pub inverse_none : (m a : ℕ) → NoInverse 8 1 (mul_mod 8 m) a → inverse_mod
 unfolding inverse_mod
 inverse_none m a none = first_none (λ b. eqb (mul_mod 8 m a b) 1) 256 0 (λ c h e. none c (omega arith) (eqb-true _ 1 e))
 
--- the number in an option, or 0
-abbrev pub or_zero : Option ℕ → ℕ
-or_zero None = 0
-or_zero (Some b) = b
-
 -- what a ring's `inverse` answers
-pub inverse_answers : (m a : ℕ) (r : Option ℕ) → Inverts 8 1 (mul_mod 8 m) a r → inverse_mod m a ≡ or_zero r
+pub inverse_answers : (m a : ℕ) (r : Option ℕ) → Inverts 8 1 (mul_mod 8 m) a r → inverse_mod m a ≡ unwrap_or r 0
 inverse_answers m a None none = inverse_none m a none
 inverse_answers m a (Some b) i = inverse_is m a b i
 

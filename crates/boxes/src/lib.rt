@@ -3,8 +3,8 @@
 
 ghost use Rattle.std.specs.Prelude.{◌≡◌, ℕ};
 
-pub mod affine;
 pub mod direct;
+pub mod sbox;
 
 // A way to work out a box: `boxed` is the box.
 pub trait Substitute {

@@ -9,18 +9,18 @@ use std::fmt;
 
 #[derive(Clone, Copy, PartialEq, Eq, Debug)]
 pub enum Refusal {
-    NotField,
-    NotOctic,
-    Divisible,
-    NoFit,
-    UnknownLetter,
-    OtherOctic,
-    KeyLength,
-    SmallWork,
-    NoKey,
-    OtherName,
-    SectorLength,
-    NumbersUsedUp,
+    NotField = 1,
+    NotOctic = 2,
+    Divisible = 3,
+    NoFit = 4,
+    UnknownLetter = 5,
+    OtherOctic = 6,
+    KeyLength = 7,
+    SmallWork = 8,
+    NoKey = 9,
+    OtherName = 10,
+    SectorLength = 11,
+    NumbersUsedUp = 12,
 }
 
 impl Refusal {
@@ -28,20 +28,7 @@ impl Refusal {
     pub fn number(self) -> u8
         ensures { result ≡ number_of self }
     {
-        match self {
-            Refusal::NotField => 1,
-            Refusal::NotOctic => 2,
-            Refusal::Divisible => 3,
-            Refusal::NoFit => 4,
-            Refusal::UnknownLetter => 5,
-            Refusal::OtherOctic => 6,
-            Refusal::KeyLength => 7,
-            Refusal::SmallWork => 8,
-            Refusal::NoKey => 9,
-            Refusal::OtherName => 10,
-            Refusal::SectorLength => 11,
-            Refusal::NumbersUsedUp => 12,
-        }
+        self as u8
     }
 }
 
