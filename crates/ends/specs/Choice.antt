@@ -2,17 +2,11 @@
 use Rattle.std.specs.Prelude.{◌≡◌, ℕ, true, false, not, List, length, is_some, Some, None, Ok, Err, Option, Result, ◌==◌, nat_lt}
 use Rattle.refusals.specs.declared.Refusal.{Refusal}
 use Rattle.refusals.specs.declared.Refusal.TheVariants.{UnknownLetter, OtherOctic, KeyLength, SmallWork, SectorLength}
-use Rattle.ciphers.specs.declared.keys.Cipher.{Cipher}
 use Rattle.ciphers.specs.Counter.{sealed}
 use Rattle.ends.specs.declared.boxed.Boxed.{Boxed}
 use Rattle.ends.specs.declared.fitted.Loaded.{Loaded}
 use Rattle.ends.specs.Letters.{cipher_for, suits}
 use Rattle.ends.specs.Model.{Blocks, refuse, unsized, block_cipher, keyed}
-
--- the letter's cipher, or the refusal of an unknown letter
-abbrev pub Named : ℕ → Result Cipher Refusal → Type 0
-Named letter (Ok c) = cipher_for letter ≡ Some c
-Named letter (Err e) = (cipher_for letter ≡ None) × (e ≡ UnknownLetter)
 
 -- an unknown letter or another octic, and else what comes after
 abbrev pub choice_refusal : ℕ → ℕ → Option Refusal → Option Refusal

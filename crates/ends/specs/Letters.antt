@@ -1,13 +1,11 @@
 -- The letters of the ciphers, and each cipher's octic and box. Assumes nothing.
-use Rattle.std.specs.Prelude.{ℕ, Bool, false, cond, List, Some, None, Option, ◌==◌}
+use Rattle.std.specs.Prelude.{ℕ, Bool, false, List, Some, None, Option, ◌==◌}
 use Rattle.boxes.specs.Boxes.{box_a, box_s}
 use Rattle.ciphers.specs.declared.keys.Cipher.{Cipher}
 use Rattle.ciphers.specs.declared.keys.Cipher.TheVariants.{Aes, Sm4}
 use Rattle.ciphers.specs.Keys.{schedule_of, cipher_of}
-
--- A is AES-128 and S is SM4; no other letter names a cipher
-abbrev pub cipher_for : ℕ → Option Cipher
-cipher_for letter = cond (letter == 65) (Some Aes) (cond (letter == 83) (Some Sm4) None)
+-- the cipher of a letter
+pub use Rattle.ciphers.specs.Letters.{cipher_for}
 
 -- the octic in whose field a cipher's box takes inverses
 abbrev pub octic_of : Cipher → ℕ

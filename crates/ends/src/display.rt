@@ -7,7 +7,7 @@ ghost use Rattle.ends.specs.Display.{Admitted, Opened, AsEnd, EachOpeningAgrees}
 ghost use Rattle.ends.specs.Letters.{octic_of};
 
 use crate::fitted::{Fitted, Loaded};
-use crate::load::{cipher_for, octic_of};
+use crate::load::octic_of;
 use crate::walk::inverses_by;
 use crate::work::Work;
 use ciphers::keys::Cipher;
@@ -19,7 +19,7 @@ use towers::pair::Pair;
 fn admit(letter: char, key: &[u8], bytes: &[u8]) -> Result<Cipher, Refusal>
     ensures { Admitted letter key.now bytes.now result }
 {
-    let cipher = cipher_for(letter)?;
+    let cipher = Cipher::try_from(letter)?;
     if key.len() != 16 {
         return Err(Refusal::KeyLength);
     }
@@ -57,23 +57,8 @@ fn load_apart(fitted: &Fitted, letter: char, key: &[u8]) -> Result<Loaded, Refus
     fitted.load(letter, key, guard.bytes)
 }
 
-// Opens a sector by the fit that is known for the letter's cipher.
+// Opens a sector by the fit that is known for the letter's cipher. The letter is a code; a number that is no character is no letter.
 fn open_by_known(
-    letter: char,
-    key: &[u8],
-    name: u16,
-    number: u64,
-    bytes: &mut [u8],
-) -> Result<(), Refusal>
-    ensures { Opened letter key.now name number bytes.old result bytes.new }
-{
-    let cipher = admit(letter, key, bytes)?;
-    let loaded = load_apart(&known_fit(cipher), letter, key)?;
-    loaded.work(name, number, bytes)
-}
-
-// The same by a letter's code; a number that is no character is no letter.
-fn open_by_code(
     letter: u32,
     key: &[u8],
     name: u16,
@@ -82,10 +67,10 @@ fn open_by_code(
 ) -> Result<(), Refusal>
     ensures { Opened letter key.now name number bytes.old result bytes.new }
 {
-    match char::from_u32(letter) {
-        Some(letter) => open_by_known(letter, key, name, number, bytes),
-        None => Err(Refusal::UnknownLetter),
-    }
+    let letter = char::from_u32(letter).ok_or(Refusal::UnknownLetter)?;
+    let cipher = admit(letter, key, bytes)?;
+    let loaded = load_apart(&known_fit(cipher), letter, key)?;
+    loaded.work(name, number, bytes)
 }
 
 // Whatever opens sectors so agrees with every end over the display's ring.
@@ -106,5 +91,5 @@ pub fn open_at_display(
     ensures agrees { AsEnd letter key.now name number bytes.old result bytes.new }
 {
     each_opening_agrees();
-    open_by_code(letter, key, name, number, bytes)
+    open_by_known(letter, key, name, number, bytes)
 }

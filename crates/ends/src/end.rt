@@ -1,6 +1,6 @@
 // An end of a link, over any ring.
 ghost use Rattle.std.specs.Prelude.{◌≡◌};
-ghost use Rattle.ends.specs.Model.{Calls, made, model, told_of};
+ghost use Rattle.ends.specs.Model.{Calls, made, model};
 ghost use Rattle.ends.specs.Model.Call.{fitting, keying, drawing, sealing, opening, wiping, telling, trailing, boxing};
 
 use crate::fitted::{Fitted, Loaded};
@@ -21,18 +21,6 @@ pub struct End<R> {
     next: u64,
     fitted: Option<Fitted>,
     loaded: Option<Loaded>,
-}
-
-fn told_of(pair: &Pair) -> Told
-    ensures { result ≡ told_of pair.now }
-{
-    let [a, b, c, d, e, f, g, h] = pair.columns;
-    let [i, j, k, l, m, n, o, p] = pair.reverse;
-    Told {
-        c: pair.constant,
-        ones: pair.ones,
-        columns: [a, b, c, d, e, f, g, h, i, j, k, l, m, n, o, p],
-    }
 }
 
 impl<R: Ring> End<R> {
@@ -57,10 +45,7 @@ impl<R: Ring> End<R> {
         let inverses = inverses_by(&self.ring, octic, &pair);
         self.fitted = Some(Fitted { pair, inverses });
         self.wipe();
-        Ok(Answer {
-            c: pair.constant,
-            ones: pair.ones,
-        })
+        Ok(Answer::from(pair))
     }
 
     // Loads a key, by way of the work area, which is zero afterwards in any case.
@@ -68,9 +53,7 @@ impl<R: Ring> End<R> {
         ensures { Calls R.Ring.WIDTH R.Ring.mul self.old (keying letter key.now work.old work.new result) self.new }
     {
         let guard = Work { bytes: work };
-        let Some(fitted) = &self.fitted else {
-            return Err(Refusal::NoFit);
-        };
+        let fitted = self.fitted.as_ref().ok_or(Refusal::NoFit)?;
         self.loaded = Some(fitted.load(letter, key, guard.bytes)?);
         Ok(())
     }
@@ -95,9 +78,7 @@ impl<R: Ring> End<R> {
         ensures { Calls R.Ring.WIDTH R.Ring.mul self.now (sealing ticket bytes.old bytes.new result) self.now }
     {
         let Ticket { name, number } = ticket;
-        let Some(key) = &self.loaded else {
-            return Err(Refusal::NoKey);
-        };
+        let key = self.loaded.as_ref().ok_or(Refusal::NoKey)?;
         if name != self.name {
             return Err(Refusal::OtherName);
         }
@@ -108,10 +89,8 @@ impl<R: Ring> End<R> {
     pub fn open(&self, name: u16, number: u64, bytes: &mut [u8]) -> Result<(), Refusal>
         ensures { Calls R.Ring.WIDTH R.Ring.mul self.now (opening name number bytes.old bytes.new result) self.now }
     {
-        match &self.loaded {
-            Some(loaded) => loaded.work(name, number, bytes),
-            None => Err(Refusal::NoKey),
-        }
+        let loaded = self.loaded.as_ref().ok_or(Refusal::NoKey)?;
+        loaded.work(name, number, bytes)
     }
 
     // Forgets the key, and keeps the fit and the number.
@@ -125,10 +104,8 @@ impl<R: Ring> End<R> {
     pub fn tell(&self, told: &mut Told) -> Result<(), Refusal>
         ensures { Calls R.Ring.WIDTH R.Ring.mul self.now (telling told.old told.new result) self.now }
     {
-        let Some(fitted) = &self.fitted else {
-            return Err(Refusal::NoFit);
-        };
-        *told = told_of(&fitted.pair);
+        let fitted = self.fitted.as_ref().ok_or(Refusal::NoFit)?;
+        *told = Told::from(fitted.pair);
         Ok(())
     }
 
@@ -136,19 +113,15 @@ impl<R: Ring> End<R> {
     pub fn trail(&self, byte: u8) -> Result<Trail, Refusal>
         ensures { Calls R.Ring.WIDTH R.Ring.mul self.now (trailing byte result) self.now }
     {
-        match &self.fitted {
-            Some(fitted) => Ok(trail_of(&self.ring, &fitted.pair, byte)),
-            None => Err(Refusal::NoFit),
-        }
+        let fitted = self.fitted.as_ref().ok_or(Refusal::NoFit)?;
+        Ok(trail_of(&self.ring, &fitted.pair, byte))
     }
 
     // The byte that the letter's box makes of a byte.
     pub fn box_byte(&self, letter: char, byte: u8) -> Result<u8, Refusal>
         ensures { Calls R.Ring.WIDTH R.Ring.mul self.now (boxing letter byte result) self.now }
     {
-        let Some(fitted) = &self.fitted else {
-            return Err(Refusal::NoFit);
-        };
+        let fitted = self.fitted.as_ref().ok_or(Refusal::NoFit)?;
         let boxed = fitted.boxed_for(letter)?;
         Ok(boxed.substitute(byte))
     }

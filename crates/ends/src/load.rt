@@ -1,11 +1,12 @@
-// The choice of a cipher by its letter, and the load of a key.
+// The choice of a cipher's box by a letter, and the load of a key.
 ghost use Rattle.std.specs.Prelude.{◌≡◌};
-ghost use Rattle.ends.specs.Choice.{Named, Chosen, Loads, Works};
+ghost use Rattle.ends.specs.Choice.{Chosen, Loads, Works};
 ghost use Rattle.ends.specs.Letters.{octic_of};
 ghost use Rattle.ends.specs.Model.{block_cipher};
 
 use crate::boxed::Boxed;
 use crate::fitted::{Fitted, Loaded};
+use boxes::sbox::{BoxA, BoxS, Sbox};
 use ciphers::counter::work_sector;
 use ciphers::keys::{Cipher, Schedule};
 use refusals::Refusal;
@@ -15,19 +16,8 @@ pub(super) fn octic_of(cipher: Cipher) -> u16
     ensures { result ≡ octic_of cipher }
 {
     match cipher {
-        Cipher::Aes => 0x11b,
-        Cipher::Sm4 => 0x1f5,
-    }
-}
-
-// The cipher that a letter names.
-pub(super) fn cipher_for(letter: char) -> Result<Cipher, Refusal>
-    ensures { Named letter result }
-{
-    match letter {
-        'A' => Ok(Cipher::Aes),
-        'S' => Ok(Cipher::Sm4),
-        _ => Err(Refusal::UnknownLetter),
+        Cipher::Aes => BoxA::OCTIC,
+        Cipher::Sm4 => BoxS::OCTIC,
     }
 }
 
@@ -36,7 +26,7 @@ impl Fitted {
     pub(super) fn boxed_for(&self, letter: char) -> Result<Boxed, Refusal>
         ensures { Chosen self.now.inverses.octic letter result }
     {
-        let cipher = cipher_for(letter)?;
+        let cipher = Cipher::try_from(letter)?;
         if self.inverses.octic != octic_of(cipher) {
             return Err(Refusal::OtherOctic);
         }

@@ -4,9 +4,7 @@ ghost use Rattle.ends.specs.Work.{Zero};
 fn clear(bytes: &mut [u8])
     ensures { Zero bytes.new }
 {
-    for b in bytes.iter_mut() {
-        *b = 0;
-    }
+    bytes.fill(0);
 }
 
 pub struct Work<'a> {
