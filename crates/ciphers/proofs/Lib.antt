@@ -1,4 +1,5 @@
 pub mod Fill
+pub mod Made
 pub mod Doubling
 pub mod Schedule
 pub mod Sm4Steps

@@ -3,8 +3,6 @@ use Rattle.std.specs.Prelude.{◌≡◌, ℕ, ◌+◌, ◌-◌, ◌/◌, ◌%◌
 use Rattle.std.specs.List.{range_with_len}
 use Rattle.refusals.specs.declared.Refusal.{Refusal}
 use Rattle.refusals.specs.declared.Refusal.TheVariants.{SectorLength}
-use Rattle.ciphers.specs.declared.counter.Blocks.{Blocks}
-use Rattle.ciphers.specs.declared.counter.Blocks.TheVariants.{Sector, From}
 
 -- a number in k bytes, the highest first
 abbrev pub big_endian : ℕ → ℕ → List ℕ
@@ -29,10 +27,9 @@ Tells name number index block =
 abbrev pub counted_block : ℕ → ℕ → List ℕ
 counted_block first index = big_endian 16 ((first + index) % 2 ^ 128)
 
--- the counter block with an index
-abbrev pub block_of : Blocks → ℕ → List ℕ
-block_of (Sector name number) index = counter_block name number index
-block_of (From first) index = counted_block first index
+-- what a function may give at an index is the block with that index
+abbrev pub Gives : (ℕ → List ℕ → Type 0) → (ℕ → List ℕ) → Type 0
+Gives post blocks = (i : ℕ) (y : List ℕ) → i < 2 ^ 16 → post i y → y ≡ blocks i
 
 -- byte j of the pads, which are given by their indices: of pad j / 16, byte j % 16
 abbrev pub pad_byte : (ℕ → List ℕ) → ℕ → ℕ

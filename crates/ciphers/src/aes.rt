@@ -4,6 +4,7 @@ ghost use Rattle.rings.specs.Poly.{mul_mod};
 ghost use Rattle.ciphers.specs.Aes.{sub_bytes, shifted, shift_rows, mixed, mix_columns, add_round_key, power, temp, next_byte, key_expansion, full_round, last_round, cipher_a};
 
 use boxes::Substitute;
+use std::array;
 
 // Twice a byte, modulo the polynomial 11B.
 fn double(b: u8) -> u8
@@ -22,11 +23,7 @@ fn triple(b: u8) -> u8
 fn sub_bytes<B: Substitute>(boxes: &B, s: [u8; 16]) -> [u8; 16]
     ensures { result ≡ sub_bytes (B.boxed boxes.now) s }
 {
-    let mut out = [0; 16];
-    for i in 0..16 {
-        out[i] = boxes.substitute(s[i]);
-    }
-    out
+    array::from_fn(|i| boxes.substitute(s[i]))
 }
 
 // The byte that comes to row r and column c.
@@ -40,11 +37,7 @@ fn shifted_byte(s: [u8; 16], r: usize, c: usize) -> u8
 fn shift_rows(s: [u8; 16]) -> [u8; 16]
     ensures { result ≡ shift_rows s }
 {
-    let mut out = [0; 16];
-    for i in 0..16 {
-        out[i] = shifted_byte(s, i % 4, i / 4);
-    }
-    out
+    array::from_fn(|i| shifted_byte(s, i % 4, i / 4))
 }
 
 // The byte in row r and column c after the columns are mixed.
@@ -61,22 +54,14 @@ fn mixed_byte(s: [u8; 16], r: usize, c: usize) -> u8
 fn mix_columns(s: [u8; 16]) -> [u8; 16]
     ensures { result ≡ mix_columns s }
 {
-    let mut out = [0; 16];
-    for i in 0..16 {
-        out[i] = mixed_byte(s, i % 4, i / 4);
-    }
-    out
+    array::from_fn(|i| mixed_byte(s, i % 4, i / 4))
 }
 
 fn add_round_key(w: &[u8; 176], n: usize, s: [u8; 16]) -> [u8; 16]
     requires { n ≤ 10 }
     ensures { result ≡ add_round_key w.now n s }
 {
-    let mut out = [0; 16];
-    for i in 0..16 {
-        out[i] = s[i] ^ w[16 * n + i];
-    }
-    out
+    array::from_fn(|i| s[i] ^ w[16 * n + i])
 }
 
 // The power j of the indeterminate, modulo 11B.
@@ -90,11 +75,12 @@ fn power_of_x(j: usize) -> u8
     r
 }
 
-// Byte j of what is added to make word i of a schedule.
-fn temp_byte<B: Substitute>(boxes: &B, w: &[u8], i: usize, j: usize) -> u8
-    requires { (4 ≤ i) × ((4 * i ≤ length w.now) × (j < 4)) }
-    ensures { result ≡ temp (B.boxed boxes.now) w.now i j }
+// Byte n of a schedule stands in word n / 4. This is the byte that is added to make it.
+fn temp_byte<B: Substitute>(boxes: &B, w: &[u8; 176], n: usize) -> u8
+    requires { (16 ≤ n) × (n < 176) }
+    ensures { result ≡ temp (B.boxed boxes.now) w.now (n / 4) (n % 4) }
 {
+    let (i, j) = (n / 4, n % 4);
     if i % 4 != 0 {
         return w[4 * (i - 1) + j];
     }
@@ -102,22 +88,22 @@ fn temp_byte<B: Substitute>(boxes: &B, w: &[u8], i: usize, j: usize) -> u8
     boxes.substitute(w[4 * (i - 1) + (j + 1) % 4]) ^ constant
 }
 
-// Byte j of word i of a schedule, from the words before it.
-fn next_byte<B: Substitute>(boxes: &B, w: &[u8], i: usize, j: usize) -> u8
-    requires { (4 ≤ i) × ((4 * i ≤ length w.now) × (j < 4)) }
-    ensures { result ≡ next_byte (B.boxed boxes.now) w.now i j }
+// Byte n of a schedule, from the words before it.
+fn next_byte<B: Substitute>(boxes: &B, w: &[u8; 176], n: usize) -> u8
+    requires { (16 ≤ n) × (n < 176) }
+    ensures { result ≡ next_byte (B.boxed boxes.now) w.now (n / 4) (n % 4) }
 {
-    w[4 * (i - 4) + j] ^ temp_byte(boxes, w, i, j)
+    w[n - 16] ^ temp_byte(boxes, w, n)
 }
 
-// The schedule of a key, into the first 176 bytes of `work`.
-pub(crate) fn expand<B: Substitute>(boxes: &B, key: &[u8], work: &mut [u8])
-    requires { (length key.now ≡ 16) × (176 ≤ length work.old) }
-    ensures { work.new ≡ key_expansion (B.boxed boxes.now) key.now ++ drop 176 work.old }
+// The schedule of a key.
+pub(crate) fn expand<B: Substitute>(boxes: &B, key: &[u8; 16], work: &mut [u8; 176])
+    ensures { work.new ≡ key_expansion (B.boxed boxes.now) key.now }
 {
     work[..16].copy_from_slice(key);
+    // Each byte is made of those before it in the same array, so this goes by index.
     for n in 16..176 {
-        work[n] = next_byte(boxes, work, n / 4, n % 4);
+        work[n] = next_byte(boxes, work, n);
     }
 }
 
@@ -139,8 +125,9 @@ pub(crate) fn encrypt<B: Substitute>(boxes: &B, w: &[u8; 176], block: [u8; 16]) 
     ensures { result ≡ cipher_a (B.boxed boxes.now) w.now block }
 {
     let mut s = add_round_key(w, 0, block);
-    for n in 0..9 {
-        let next = round(boxes, w, n + 1, s);
+    // The check does not cover `s = round(.., s)`, which lays a call's array where its argument stands.
+    for n in 1..10 {
+        let next = round(boxes, w, n, s);
         s = next;
     }
     final_round(boxes, w, s)

@@ -1,18 +1,11 @@
 // The counter mode, in the caller's bytes.
-ghost use Rattle.std.specs.Prelude.{◌≡◌, ◌+◌, ◌<◌, ◌≤◌, min, length};
-ghost use Rattle.ciphers.specs.Counter.{laid_out, counter_block, counted_block, Tells, block_of, Covers, InRange, Pads, sector_pads, counted_pads, Worked};
+ghost use Rattle.std.specs.Prelude.{◌≡◌, ℕ, ◌<◌, List, length};
+ghost use Rattle.ciphers.specs.Counter.{laid_out, counter_block, counted_block, Tells, Gives, Covers, InRange, Pads, sector_pads, counted_pads, Worked};
 ghost use Rattle.ciphers.specs.Keys.{cipher_of};
 
 use crate::keys::Schedule;
 use boxes::Substitute;
 use refusals::Refusal;
-
-// Where the counter blocks come from: a sector's name and number, or a first block that rises by 1.
-#[derive(Clone, Copy)]
-enum Blocks {
-    Sector { name: u16, number: u64 },
-    From(u128),
-}
 
 // The bytes of a sector's counter block.
 fn lay_out(name: u16, number: u64, index: u16) -> [u8; 16]
@@ -32,63 +25,55 @@ pub fn counter_block(name: u16, number: u64, index: u16) -> [u8; 16]
     lay_out(name, number, index)
 }
 
+// The counter block of a block whose first one is given.
 fn counted(first: u128, index: u16) -> [u8; 16]
     ensures { result ≡ counted_block first index }
 {
     first.wrapping_add(index as u128).to_be_bytes()
 }
 
-impl Blocks {
-    fn block(self, index: u16) -> [u8; 16]
-        ensures { result ≡ block_of self index }
-    {
-        match self {
-            Blocks::Sector { name, number } => counter_block(name, number, index),
-            Blocks::From(first) => counted(first, index),
-        }
-    }
-}
-
-// How many bytes a pad covers where `left` bytes are left.
-fn cut(left: usize) -> usize
-    ensures { result ≡ min 16 left }
-{
-    if left < 16 { left } else { 16 }
-}
-
-// Puts a pad over the bytes from `start` on.
+// Puts a pad over the bytes from `start` on, as far as they go.
 fn cover(pad: [u8; 16], start: usize, bytes: &mut [u8])
     requires { start < length bytes.old }
     ensures { Covers pad start 16 bytes.old bytes.new }
 {
-    let count = cut(bytes.len() - start);
-    for k in 0..count {
-        bytes[start + k] ^= pad[k];
+    let count = (bytes.len() - start).min(16);
+    for (k, p) in pad[..count].iter().enumerate() {
+        bytes[start + k] ^= *p;
     }
 }
 
-fn pad_bytes<B: Substitute>(boxes: &B, keys: &Schedule, blocks: Blocks, bytes: &mut [u8])
-    requires { InRange bytes.old }
-    ensures { Pads (λ i. cipher_of (B.boxed boxes.now) keys.now (block_of blocks i)) bytes.old bytes.new }
+// Puts the pads over the bytes, one for each 16; `block` gives the counter blocks by their indices.
+fn pad_bytes<B: Substitute, F: Fn(u16) -> [u8; 16]>(
+    boxes: &B,
+    keys: &Schedule,
+    block: F,
+    bytes: &mut [u8],
+)
+    requires range { InRange bytes.old }
+    requires callable { F.IsAlwaysCallable block }
+    ensures { (blocks : ℕ → List ℕ) → Gives (F.post block) blocks → Pads (λ i. cipher_of (B.boxed boxes.now) keys.now (blocks i)) bytes.old bytes.new }
 {
-    for i in 0..(bytes.len() + 15) / 16 {
-        let pad = keys.encrypt(boxes, blocks.block(i as u16));
+    // After `chunks_mut` a proof knows how many bytes there are and not which, so this goes by index.
+    for i in 0..bytes.len().div_ceil(16) {
+        let pad = keys.encrypt(boxes, block(i as u16));
         cover(pad, 16 * i, bytes);
     }
 }
 
-fn work<B: Substitute>(
+fn work<B: Substitute, F: Fn(u16) -> [u8; 16]>(
     boxes: &B,
     keys: &Schedule,
-    blocks: Blocks,
+    block: F,
     bytes: &mut [u8],
 ) -> Result<(), Refusal>
-    ensures { Worked (λ i. cipher_of (B.boxed boxes.now) keys.now (block_of blocks i)) bytes.old result bytes.new }
+    requires { F.IsAlwaysCallable block }
+    ensures { (blocks : ℕ → List ℕ) → Gives (F.post block) blocks → Worked (λ i. cipher_of (B.boxed boxes.now) keys.now (blocks i)) bytes.old result bytes.new }
 {
     if bytes.is_empty() || bytes.len() > 4096 {
         return Err(Refusal::SectorLength);
     }
-    pad_bytes(boxes, keys, blocks, bytes);
+    pad_bytes(boxes, keys, block, bytes);
     Ok(())
 }
 
@@ -102,7 +87,10 @@ pub fn work_sector<B: Substitute>(
 ) -> Result<(), Refusal>
     ensures { Worked (sector_pads (cipher_of (B.boxed boxes.now) keys.now) name number) bytes.old result bytes.new }
 {
-    work(boxes, keys, Blocks::Sector { name, number }, bytes)
+    let block = |index: u16| -> [u8; 16]
+        ensures { result ≡ counter_block name number index }
+    { counter_block(name, number, index) };
+    work(boxes, keys, block, bytes)
 }
 
 // The same with the counter blocks that rise by 1 from a first one.
@@ -114,5 +102,8 @@ pub fn work_from<B: Substitute>(
 ) -> Result<(), Refusal>
     ensures { Worked (counted_pads (cipher_of (B.boxed boxes.now) keys.now) first) bytes.old result bytes.new }
 {
-    work(boxes, keys, Blocks::From(first), bytes)
+    let block = |index: u16| -> [u8; 16]
+        ensures { result ≡ counted_block first index }
+    { counted(first, index) };
+    work(boxes, keys, block, bytes)
 }

@@ -21,27 +21,7 @@ pub enum Schedule {
     Sm4Words([u32; 32]),
 }
 
-// The first bytes of a work area.
-fn front(work: &[u8]) -> [u8; 176]
-    requires { 176 ≤ length work.now }
-    ensures { result ≡ take 176 work.now }
-{
-    let mut bytes = [0; 176];
-    bytes.copy_from_slice(&work[..176]);
-    bytes
-}
-
-fn aes_bytes<B: Substitute>(boxes: &B, key: &[u8], work: &mut [u8]) -> [u8; 176]
-    requires { (length key.now ≡ 16) × (176 ≤ length work.old) }
-    ensures schedule { result ≡ key_expansion (B.boxed boxes.now) key.now }
-    ensures held { work.new ≡ result ++ drop 176 work.old }
-{
-    aes::expand(boxes, key, work);
-    front(work)
-}
-
-fn sm4_words<B: Substitute>(boxes: &B, key: &[u8], work: &mut [u8]) -> [u32; 32]
-    requires { (length key.now ≡ 16) × (128 ≤ length work.old) }
+fn sm4_words<B: Substitute>(boxes: &B, key: &[u8; 16], work: &mut [u8; 176]) -> [u32; 32]
     ensures schedule { result ≡ schedule_s (B.boxed boxes.now) key.now }
     ensures held { work.new ≡ bytes_of result ++ drop 128 work.old }
 {
@@ -59,15 +39,18 @@ impl Schedule {
     ) -> Result<Schedule, Refusal>
         ensures { Loaded (B.boxed boxes.now) cipher key.now work.old result work.new }
     {
-        if key.len() != 16 {
+        let Some(key) = key.as_array() else {
             return Err(Refusal::KeyLength);
-        }
-        if work.len() < 176 {
+        };
+        let Some(front) = work.first_chunk_mut() else {
             return Err(Refusal::SmallWork);
-        }
+        };
         match cipher {
-            Cipher::Aes => Ok(Schedule::AesBytes(aes_bytes(boxes, key, work))),
-            Cipher::Sm4 => Ok(Schedule::Sm4Words(sm4_words(boxes, key, work))),
+            Cipher::Aes => {
+                aes::expand(boxes, key, front);
+                Ok(Schedule::AesBytes(*front))
+            }
+            Cipher::Sm4 => Ok(Schedule::Sm4Words(sm4_words(boxes, key, front))),
         }
     }
 

@@ -1,11 +1,8 @@
-use Rattle.std.proofs.Common.{arith}
-use Rattle.ciphers.specs.Aes.{shift_rows}
-use Rattle.ciphers.proofs.Fill.{filled_more, filled_all}
+use Rattle.std.proofs.Common.{◌/◌, ◌%◌, rules}
+use Rattle.ciphers.specs.Aes.{shifted, shift_rows}
+use Rattle.ciphers.proofs.Made.{from_fn_all}
 use Rattle.ciphers.proofs.aes.shift_rows.Goals as goal
-
-pub loop-i-preserved : goal.loop-i-preserved
-loop-i-preserved c = filled_more _ c.loop-i.out c.loop-i.i _ (omega arith) c.shifted_byte.ensures c.loop-i.invariant
 
 pub returns : goal.returns
 unfolding shift_rows
-returns c = filled_all _ c.loop-i.out c.loop-i.i (omega arith) c.loop-i.invariant
+returns c = from_fn_all _ (λ i. shifted c.args.s (i % 4) (i / 4)) _ (λ i y f' k. search rules) _ _ c.from_fn.ensures.items
