@@ -25,7 +25,7 @@ pub fn counter_block(name: u16, number: u64, index: u16) -> [u8; 16]
     lay_out(name, number, index)
 }
 
-// The counter block of a block whose first one is given.
+// The counter block with an index, where the first one is given.
 fn counted(first: u128, index: u16) -> [u8; 16]
     ensures { result ≡ counted_block first index }
 {

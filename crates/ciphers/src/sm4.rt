@@ -45,13 +45,14 @@ fn spread(b: u32) -> u32
     b ^ b.rotate_left(2) ^ b.rotate_left(10) ^ b.rotate_left(18) ^ b.rotate_left(24)
 }
 
+// The map of the key schedule: other turns and fewer. One function for both would take a list of turns, and be no plainer.
 fn spread_key(b: u32) -> u32
     ensures { result ≡ linear_key b }
 {
     b ^ b.rotate_left(13) ^ b.rotate_left(23)
 }
 
-// What a round spreads over a word: the last three words and the key k, substituted.
+// The sum of the last three words and the key k, substituted: what a round spreads.
 fn mixed<B: Substitute>(boxes: &B, x: [u32; 4], k: u32) -> u32
     ensures { result ≡ tau (B.boxed boxes.now) (bit_xor (bit_xor (bit_xor (slice_index x 1) (slice_index x 2)) (slice_index x 3)) k) }
 {
