@@ -35,8 +35,7 @@ fn number(part: &[u8]) -> Option<u8>
 pub(crate) fn count_value(part: &[u8]) -> Option<u8>
     ensures { result ≡ count_of part.now }
 {
-    let value = number(part)?;
-    if value <= 64 { Some(value) } else { None }
+    number(part).filter(|n| *n <= 64)
 }
 
 // Writes the bytes of the digits, two digits to a byte, or stops at a byte that is no digit.
@@ -71,8 +70,5 @@ pub(crate) fn sector_value(heap: Global, part: &[u8]) -> Result<Option<Vec<u8>>,
         return Ok(None);
     }
     let mut bytes = vec![in heap; 0; count / 2]?;
-    match decode(part, &mut bytes) {
-        Some(()) => Ok(Some(bytes)),
-        None => Ok(None),
-    }
+    Ok(decode(part, &mut bytes).map(|()| bytes))
 }

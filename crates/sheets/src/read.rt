@@ -41,13 +41,10 @@ fn read_words(heap: Global, sheet: &[u8]) -> Result<Sheet, ReadError>
 fn read_sections(reader: &mut SheetReader) -> Result<Sheet, ReadError>
     ensures { Step contents sections reader.old result reader.new }
 {
-    let fits = section_of(reader)?;
-    let keys = section_of(reader)?;
-    let sectors = section_of(reader)?;
     Ok(Sheet {
-        fits,
-        keys,
-        sectors,
+        fits: section_of(reader)?,
+        keys: section_of(reader)?,
+        sectors: section_of(reader)?,
     })
 }
 

@@ -26,9 +26,10 @@ impl Entry for FitEntry {
     ghost form = { fit_read };
 
     fn read(reader: &mut SheetReader) -> Result<FitEntry, ReadError> {
-        let side = reader.value()?;
-        let octic = reader.value()?;
-        Ok(FitEntry { side, octic })
+        Ok(FitEntry {
+            side: reader.value()?,
+            octic: reader.value()?,
+        })
     }
 }
 
@@ -38,10 +39,11 @@ impl Entry for KeyEntry {
     ghost form = { key_read };
 
     fn read(reader: &mut SheetReader) -> Result<KeyEntry, ReadError> {
-        let side = reader.value()?;
-        let cipher = reader.value()?;
-        let key = reader.value()?;
-        Ok(KeyEntry { side, cipher, key })
+        Ok(KeyEntry {
+            side: reader.value()?,
+            cipher: reader.value()?,
+            key: reader.value()?,
+        })
     }
 }
 
@@ -51,9 +53,10 @@ impl Entry for SectorEntry {
     ghost form = { sector_read };
 
     fn read(reader: &mut SheetReader) -> Result<SectorEntry, ReadError> {
-        let side = reader.value()?;
-        let bytes = reader.value()?;
-        Ok(SectorEntry { side, bytes })
+        Ok(SectorEntry {
+            side: reader.value()?,
+            bytes: reader.value()?,
+        })
     }
 }
 

@@ -40,17 +40,14 @@ impl<'a> SheetReader<'a> {
         let Some(word) = self.word() else {
             return Err(bad_word(self.end));
         };
-        match Token::of(word, due) {
-            Some(token) => Ok(token),
-            None => Err(bad_word(word.place)),
-        }
+        Token::of(word, due).ok_or(bad_word(word.place))
     }
 
     // The value that the next word stands for.
     pub(crate) fn value<T: Value>(&mut self) -> Result<T, ReadError>
         ensures { Step T.Value.item (word_as T.Value.form) self.old result self.new }
     {
-        let token = self.token(T::due())?;
+        let token = self.token(T::DUE)?;
         T::of(self.heap, token)
     }
 }

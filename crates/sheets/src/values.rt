@@ -24,19 +24,18 @@ pub(crate) trait Value: Sized {
 
     ghost form: { List ℕ → Option Plain };
 
-    ghost due: { DueType };
-
     // What is due where a value of this kind is read.
-    fn due() -> Due
-        ensures { result ≡ due };
+    ghost DUE: { DueType };
+
+    const DUE: Due;
 
     // The value of a token.
     fn of(heap: Global, token: Token) -> Result<Self, ReadError>
-        requires { Shaped due token }
+        requires { Shaped DUE token }
         ensures { Stands form item token.entry result };
 
     // A word that makes no token stands for nothing.
-    ghost shaped: { (bs : List ℕ) → shape due bs ≡ None → form bs ≡ None };
+    ghost shaped: { (bs : List ℕ) → shape DUE bs ≡ None → form bs ≡ None };
 }
 
 // A count.
@@ -47,13 +46,11 @@ impl Value for u8 {
 
     ghost form = { count_of };
 
-    ghost due = { DueCount };
+    ghost DUE = { DueCount };
+
+    const DUE: Due = Due::Count;
 
     ghost shaped = { no_count };
-
-    fn due() -> Due {
-        Due::Count
-    }
 
     fn of(_heap: Global, token: Token) -> Result<u8, ReadError> {
         match token {
@@ -71,13 +68,11 @@ impl Value for Side {
 
     ghost form = { side_of };
 
-    ghost due = { DueLetter };
+    ghost DUE = { DueLetter };
+
+    const DUE: Due = Due::Letter;
 
     ghost shaped = { no_side };
-
-    fn due() -> Due {
-        Due::Letter
-    }
 
     fn of(_heap: Global, token: Token) -> Result<Side, ReadError> {
         match token {
@@ -96,13 +91,11 @@ impl Value for Cipher {
 
     ghost form = { cipher_of };
 
-    ghost due = { DueLetter };
+    ghost DUE = { DueLetter };
+
+    const DUE: Due = Due::Letter;
 
     ghost shaped = { no_cipher };
-
-    fn due() -> Due {
-        Due::Letter
-    }
 
     fn of(_heap: Global, token: Token) -> Result<Cipher, ReadError> {
         match token {
@@ -122,13 +115,11 @@ impl Value for u16 {
 
     ghost form = { octic_of };
 
-    ghost due = { DueDigits };
+    ghost DUE = { DueDigits };
+
+    const DUE: Due = Due::Digits;
 
     ghost shaped = { no_digits octic_of };
-
-    fn due() -> Due {
-        Due::Digits
-    }
 
     fn of(_heap: Global, token: Token) -> Result<u16, ReadError> {
         match token {
@@ -146,13 +137,11 @@ impl Value for [u8; 16] {
 
     ghost form = { key_bytes };
 
-    ghost due = { DueDigits };
+    ghost DUE = { DueDigits };
+
+    const DUE: Due = Due::Digits;
 
     ghost shaped = { no_digits key_bytes };
-
-    fn due() -> Due {
-        Due::Digits
-    }
 
     fn of(_heap: Global, token: Token) -> Result<[u8; 16], ReadError> {
         match token {
@@ -170,13 +159,11 @@ impl Value for Vec<u8> {
 
     ghost form = { sector_bytes };
 
-    ghost due = { DueDigits };
+    ghost DUE = { DueDigits };
+
+    const DUE: Due = Due::Digits;
 
     ghost shaped = { no_digits sector_bytes };
-
-    fn due() -> Due {
-        Due::Digits
-    }
 
     fn of(heap: Global, token: Token) -> Result<Vec<u8>, ReadError> {
         match token {

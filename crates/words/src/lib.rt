@@ -62,10 +62,7 @@ fn blank(b: u8) -> bool
     ensures yes { T result → Blank b }
     ensures only { Blank b → T result }
 {
-    match b as char {
-        ' ' | '\n' => true,
-        _ => false,
-    }
+    matches!(b as char, ' ' | '\n')
 }
 
 // A reader at the start of a text.

@@ -1,5 +1,5 @@
-use Rattle.std.proofs.Common.{ℕ, List, Some, sym, ap, ◌∙◌, arith, take_at}
-use Rattle.sheets.proofs.Decoding.{sector_inside, sector_short, sector_long, sector_odd}
+use Rattle.std.proofs.Common.{arith}
+use Rattle.sheets.proofs.Decoding.{sector_short, sector_long, sector_odd}
 use Rattle.sheets.proofs.digits.sector_value.Goals as goal
 use Rattle.sheets.proofs.digits.sector_value.Goals.{then-count-lt2-via-then-count-lt2, then-count-lt2-via-else-count-lt2+then-count-gt512, then-count-lt2-via-else-count-lt2+else-count-gt512+then-count-ne0}
 
@@ -10,8 +10,3 @@ returns-then-count-lt2 c =
       | then-count-lt2-via-else-count-lt2+then-count-gt512 w ↦ sector_long c.args.part.now w.if-count-gt512.true
       | then-count-lt2-via-else-count-lt2+else-count-gt512+then-count-ne0 w ↦ sector_odd c.args.part.now w.if-count-lt2.false w.if-count-gt512.false (omega arith)
     ]
-
-pub returns-in-Some : goal.returns-in-Some
-returns-in-Some c =
-    sector_inside c.args.part.now c.if-count-lt2.false c.if-count-gt512.false ∙ c.in-Some.ensures
-    ∙ ap (λ (bs : List ℕ). Some bs) (sym (take_at c.decode.new.bytes _ c.in_ok-bytes.bytes.len (omega arith)))
