@@ -43,6 +43,7 @@ fn decode(digits: &[u8], bytes: &mut [u8]) -> Option<()>
     requires { length digits.now ≡ 2 * length bytes.old }
     ensures { Decoded digits.now result bytes.new }
 {
+    // A `zip` of the bytes with the pairs of digits proves nothing of what is written.
     for (i, byte) in bytes.iter_mut().enumerate() {
         *byte = hex_byte(&digits[2 * i..2 * i + 2])?;
     }

@@ -60,7 +60,7 @@ impl Value for u8 {
     }
 }
 
-// An end: H or D.
+// An end: H or D. Only sheets name the ends by letters, so the match stands here and not at `Side`.
 impl Value for Side {
     ghost Plain = { SideType };
 
