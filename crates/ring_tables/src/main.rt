@@ -5,45 +5,77 @@ use rings::Ring;
 use rings::pairing::Pairing;
 use rings::poly::{Four, Octic, Quartic};
 use rings::powers::Powers13;
-use std::io;
+use std::ops::RangeInclusive;
+use std::{fmt, io};
 
-// What stands before the code at an index of a line of sixteen.
-fn gap(index: u16) -> &'static str {
-    if index % 16 == 0 { "" } else { " " }
+// A code by its digit, or by two if its ring is wide; a dash where there is none.
+#[derive(Clone, Copy)]
+struct Shown {
+    code: Option<u8>,
+    wide: bool,
 }
 
-fn print_products<R: Ring>(rt: &impl Print, ring: &R) -> io::Result<()> {
-    let codes = 1u16 << R::WIDTH;
-    for a in 0..codes {
-        for b in 0..codes {
-            let product = ring.product(a as u8, b as u8);
-            let gap = gap(b);
-            print!(rt; "{gap}{product:X}")?;
+impl fmt::Display for Shown {
+    fn fmt<W: fmt::Write>(&self, f: &mut fmt::Formatter<W>) -> fmt::Result {
+        match self.code {
+            Some(code) if self.wide => write!(f, "{code:02X}"),
+            Some(code) => write!(f, "{code:X}"),
+            None => f.write_str("-"),
         }
-        println!(rt; "")?;
+    }
+}
+
+// Codes with a space between each two.
+#[derive(Clone, Copy)]
+struct Line<'a>(&'a [Shown]);
+
+impl fmt::Display for Line<'_> {
+    fn fmt<W: fmt::Write>(&self, f: &mut fmt::Formatter<W>) -> fmt::Result {
+        let Some((first, rest)) = self.0.split_first() else {
+            return Ok(());
+        };
+        write!(f, "{first}")?;
+        for code in rest {
+            write!(f, " {code}")?;
+        }
+        Ok(())
+    }
+}
+
+// All codes of a ring.
+fn codes<R: Ring>() -> RangeInclusive<u8> {
+    0..=u8::MAX >> (8 - R::WIDTH)
+}
+
+fn print_products<R: Ring>(rt: &HostRuntime, ring: &R) -> io::Result<()> {
+    for a in codes::<R>() {
+        let row: Vec<Shown> = codes::<R>()
+            .map(|b| Shown {
+                code: Some(ring.product(a, b)),
+                wide: false,
+            })
+            .collect(rt.alloc())?;
+        println!(rt; "{}", Line(&row))?;
     }
     Ok(())
 }
 
-fn print_inverses<R: Ring>(rt: &impl Print, ring: &R) -> io::Result<()> {
+fn print_inverses<R: Ring>(rt: &HostRuntime, ring: &R) -> io::Result<()> {
     let wide = R::WIDTH == 8;
-    let codes = 1u16 << R::WIDTH;
+    let inverses: Vec<Shown> = codes::<R>()
+        .map(|a| Shown {
+            code: ring.inverse(a),
+            wide,
+        })
+        .collect(rt.alloc())?;
     println!(rt; "inverses")?;
-    for a in 0..codes {
-        let gap = gap(a);
-        match ring.inverse(a as u8) {
-            Some(b) if wide => print!(rt; "{gap}{b:02X}")?,
-            Some(b) => print!(rt; "{gap}{b:X}")?,
-            None => print!(rt; "{gap}-")?,
-        }
-        if a % 16 == 15 || a + 1 == codes {
-            println!(rt; "")?;
-        }
+    for line in inverses.chunks(16) {
+        println!(rt; "{}", Line(line))?;
     }
     Ok(())
 }
 
-fn print_ring<R: Ring>(rt: &impl Print, name: &str, ring: &R) -> io::Result<()> {
+fn print_ring<R: Ring>(rt: &HostRuntime, name: &str, ring: &R) -> io::Result<()> {
     println!(rt; "ring {name}")?;
     if R::WIDTH <= 4 {
         print_products(rt, ring)?;
@@ -51,7 +83,7 @@ fn print_ring<R: Ring>(rt: &impl Print, name: &str, ring: &R) -> io::Result<()> 
     print_inverses(rt, ring)
 }
 
-fn print_octics(rt: &impl Print) -> io::Result<()> {
+fn print_octics(rt: &HostRuntime) -> io::Result<()> {
     for number in [0x11b, 0x1f5, 0x100, 0x1ff] {
         println!(rt; "ring {number:X}")?;
         print_inverses(rt, &Octic::new(number))?;

@@ -1,0 +1,111 @@
+// Reads a line as a request.
+use ciphers::keys::Cipher;
+use std::alloc::{AllocError, Global};
+use std::{fmt, io};
+use words::hex_byte;
+
+// A line, read.
+#[derive(Drop)]
+pub struct Request {
+    pub cipher: Cipher,
+    pub key: [u8; 16],
+    pub name: u16,
+    pub number: u64,
+    pub sector: Vec<u8>,
+}
+
+// What is bad in a line.
+#[derive(Clone, Copy, Debug)]
+pub enum Part {
+    Words,
+    Letter,
+    Key,
+    Name,
+    Number,
+    Sector,
+}
+
+impl fmt::Display for Part {
+    fn fmt<W: fmt::Write>(&self, f: &mut fmt::Formatter<W>) -> fmt::Result {
+        f.write_str(match self {
+            Part::Words => "words",
+            Part::Letter => "letter",
+            Part::Key => "key",
+            Part::Name => "name",
+            Part::Number => "number",
+            Part::Sector => "sector",
+        })
+    }
+}
+
+// Why a line is not sealed.
+#[derive(Drop, Debug)]
+pub enum LineError {
+    Bad(Part),
+    Other(anyhow::Error),
+}
+
+impl From<Part> for LineError {
+    fn from(part: Part) -> LineError {
+        LineError::Bad(part)
+    }
+}
+
+impl From<AllocError> for LineError {
+    fn from(error: AllocError) -> LineError {
+        LineError::Other(anyhow::Error::from(error))
+    }
+}
+
+impl From<io::Error> for LineError {
+    fn from(error: io::Error) -> LineError {
+        LineError::Other(anyhow::Error::from(error))
+    }
+}
+
+fn letter(word: &str) -> Result<Cipher, Part> {
+    match word {
+        "A" => Ok(Cipher::Aes),
+        "S" => Ok(Cipher::Sm4),
+        _ => Err(Part::Letter),
+    }
+}
+
+// The bytes in a word of two digits each.
+fn bytes(heap: Global, word: &str, part: Part) -> Result<Vec<u8>, LineError> {
+    word.as_bytes()
+        .chunks(2)
+        .map(|digits| -> Result<u8, LineError> { Ok(hex_byte(digits).ok_or(part)?) })
+        .try_collect(heap)
+}
+
+// The same for a word of so many bytes.
+fn array<const N: usize>(heap: Global, word: &str, part: Part) -> Result<[u8; N], LineError> {
+    let bytes = bytes(heap, word, part)?;
+    let Ok(array) = <[u8; N]>::try_from(bytes.as_slice()) else {
+        return Err(LineError::Bad(part));
+    };
+    Ok(array)
+}
+
+// Reads a line, or says what is bad in it.
+pub(crate) fn read(heap: Global, line: &str) -> Result<Request, LineError> {
+    let mut words = line.split_whitespace();
+    let (Some(cipher), Some(key), Some(name), Some(number), Some(sector), None) = (
+        words.next(),
+        words.next(),
+        words.next(),
+        words.next(),
+        words.next(),
+        words.next(),
+    ) else {
+        return Err(LineError::Bad(Part::Words));
+    };
+    Ok(Request {
+        cipher: letter(cipher)?,
+        key: array(heap, key, Part::Key)?,
+        name: u16::from_be_bytes(array(heap, name, Part::Name)?),
+        number: u64::from_be_bytes(array(heap, number, Part::Number)?),
+        sector: bytes(heap, sector, Part::Sector)?,
+    })
+}
