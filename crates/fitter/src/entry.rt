@@ -60,6 +60,7 @@ pub(crate) fn published_for(choice: Choice, octic: u16) -> Option<Published>
     }
 }
 
+// The rings are of different types, and a type's width is a constant, so no one `dyn Ring` can stand for them.
 pub(crate) fn fit_of(choice: Choice, octic: u16) -> Result<Pair, Refusal> {
     match choice {
         Choice::Ring13 => towers::fit(&Quartic::Ring13, octic),

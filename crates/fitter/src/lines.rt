@@ -5,17 +5,15 @@ use towers::pair::Pair;
 use words::shown::Shown;
 use words::{Word, hex_triple};
 
-// Row `row` of a matrix of eight columns: 1 for an entry 1, and a dot for an entry 0.
+// A row of a matrix of eight columns, by its number: 1 for an entry 1, and a dot for an entry 0.
 #[derive(Clone, Copy)]
-struct Row<'a> {
-    columns: &'a [u8; 8],
-    row: u32,
-}
+struct Row<'a>(&'a [u8; 8], u32);
 
 impl fmt::Display for Row<'_> {
     fn fmt<W: fmt::Write>(&self, f: &mut fmt::Formatter<W>) -> fmt::Result {
-        for column in self.columns {
-            let entry = (*column >> (self.row % 8)) % 2;
+        let Row(columns, row) = *self;
+        for column in columns {
+            let entry = (*column >> (row % 8)) % 2;
             f.write_str(if entry == 1 { "1" } else { "." })?;
         }
         Ok(())
@@ -25,15 +23,7 @@ impl fmt::Display for Row<'_> {
 // Both matrices side by side, M to the left.
 fn print_matrices(rt: &impl Print, pair: &Pair) -> io::Result<()> {
     for row in 0..8 {
-        let left = Row {
-            columns: &pair.columns,
-            row,
-        };
-        let right = Row {
-            columns: &pair.reverse,
-            row,
-        };
-        println!(rt; "{left}  {right}")?;
+        println!(rt; "{}  {}", Row(&pair.columns, row), Row(&pair.reverse, row))?;
     }
     Ok(())
 }
@@ -42,7 +32,7 @@ fn print_matrices(rt: &impl Print, pair: &Pair) -> io::Result<()> {
 fn print_comparison(rt: &impl Print, kept: &Pair, known: &Published) -> io::Result<()> {
     let constant = known.constant;
     let ones = known.ones;
-    if known.columns == kept.columns && constant == kept.constant {
+    if (constant, known.columns) == (kept.constant, kept.columns) {
         return println!(rt; "the published pair is this one");
     }
     if ones == kept.ones {
@@ -55,9 +45,10 @@ fn print_fit(rt: &impl Print, ring: Word, choice: Choice, octic: u16) -> io::Res
     let name = Shown(ring.part);
     match fit_of(choice, octic) {
         Ok(pair) => {
-            let constant = pair.constant;
-            let ones = pair.ones;
-            println!(rt; "{name} {octic:03X}: c {constant}, {ones} ones")?;
+            println!(rt;
+                "{name} {octic:03X}: c {}, {} ones",
+                pair.constant, pair.ones
+            )?;
             print_matrices(rt, &pair)?;
             match published_for(choice, octic) {
                 Some(known) => print_comparison(rt, &pair, &known),
@@ -65,16 +56,16 @@ fn print_fit(rt: &impl Print, ring: Word, choice: Choice, octic: u16) -> io::Res
             }
         }
         Err(refusal) => {
-            let number = refusal.number();
-            println!(rt; "{name} {octic:03X}: refused with {number}, {refusal}")
+            println!(rt;
+                "{name} {octic:03X}: refused with {}, {refusal}",
+                refusal.number()
+            )
         }
     }
 }
 
 fn print_bad(rt: &impl Print, word: Word, what: &str) -> io::Result<()> {
-    let place = word.place;
-    let name = Shown(word.part);
-    println!(rt; "{name} at {place} is no {what}")
+    println!(rt; "{} at {} is no {what}", Shown(word.part), word.place)
 }
 
 fn print_entry(rt: &impl Print, ring: Word, octic: Word) -> io::Result<()> {
