@@ -6,81 +6,65 @@ use rings::Ring;
 use rings::pairing::Pairing;
 use rings::poly::{Four, Octic, Quartic};
 use rings::powers::Powers13;
-use std::io;
+use std::{fmt, io};
 use test_ring::Exchanged;
 use towers::boxed::{box_a, box_s};
 use towers::fit;
 use towers::pair::Pair;
 use towers::trail::trail_of;
 
-// How many numbers each refusal came for.
-#[derive(Drop)]
-struct Refused {
-    not_field: usize,
-    not_octic: usize,
-    divisible: usize,
-}
+// Columns, each after a space.
+#[derive(Clone, Copy)]
+struct Columns<'a>(&'a [u8; 8]);
 
-impl Refused {
-    fn add(&mut self, refusal: Refusal) {
-        match refusal {
-            Refusal::NotField => self.not_field = self.not_field.saturating_add(1),
-            Refusal::NotOctic => self.not_octic = self.not_octic.saturating_add(1),
-            Refusal::Divisible => self.divisible = self.divisible.saturating_add(1),
-            _ => {}
+impl fmt::Display for Columns<'_> {
+    fn fmt<W: fmt::Write>(&self, f: &mut fmt::Formatter<W>) -> fmt::Result {
+        for column in self.0 {
+            write!(f, " {column:02X}")?;
         }
+        Ok(())
     }
-}
-
-fn print_columns(rt: &impl Print, columns: &[u8]) -> io::Result<()> {
-    for column in columns {
-        print!(rt; " {column:02X}")?;
-    }
-    Ok(())
 }
 
 fn print_pair(rt: &impl Print, name: &str, octic: u16, pair: &Pair) -> io::Result<()> {
-    let constant = pair.constant;
-    let ones = pair.ones;
-    print!(rt; "{name} {octic:03X} {constant} {ones}")?;
-    print_columns(rt, &pair.columns)?;
-    print_columns(rt, &pair.reverse)?;
-    println!(rt; "")
+    println!(rt;
+        "{name} {octic:03X} {} {}{}{}",
+        pair.constant,
+        pair.ones,
+        Columns(&pair.columns),
+        Columns(&pair.reverse)
+    )
 }
 
-fn print_fits<R: Ring>(rt: &impl Print, name: &str, ring: &R) -> io::Result<()> {
-    let mut refused = Refused {
-        not_field: 0,
-        not_octic: 0,
-        divisible: 0,
-    };
+fn print_fits<R: Ring>(rt: &HostRuntime, name: &str, ring: &R) -> io::Result<()> {
+    let mut refusals = Vec::new(rt.alloc());
     for octic in 0..=u16::MAX {
         match fit(ring, octic) {
             Ok(pair) => print_pair(rt, name, octic, &pair)?,
-            Err(refusal) => refused.add(refusal),
+            Err(refusal) => refusals.push(refusal)?,
         }
     }
-    let first = refused.not_field;
-    let second = refused.not_octic;
-    let third = refused.divisible;
+    let [first, second, third] = [Refusal::NotField, Refusal::NotOctic, Refusal::Divisible].map(
+        |kind| refusals.iter().filter(|refusal| **refusal == kind).count(),
+    );
     println!(rt; "{name} refused: 1 {first}, 2 {second}, 3 {third}")
 }
 
 fn print_trails<R: Ring>(rt: &impl Print, name: &str, ring: &R, octic: u16) -> io::Result<()> {
-    if let Ok(pair) = fit(ring, octic) {
-        for x in 0..=255 {
-            let trail = trail_of(ring, &pair, x);
-            let code = trail.code;
-            let inverse = trail.inverse;
-            let byte = trail.byte;
-            let boxed = if octic == 0x11b {
-                box_a(ring, &pair, x)
-            } else {
-                box_s(ring, &pair, x)
-            };
-            print!(rt; "{name} {octic:03X} {x:02X}: ")?;
-            println!(rt; "{code:02X} {inverse:02X} {byte:02X}, box {boxed:02X}")?;
-        }
+    let Ok(pair) = fit(ring, octic) else {
+        return Ok(());
+    };
+    for x in 0..=255 {
+        let trail = trail_of(ring, &pair, x);
+        let boxed = if octic == 0x11b {
+            box_a(ring, &pair, x)
+        } else {
+            box_s(ring, &pair, x)
+        };
+        println!(rt;
+            "{name} {octic:03X} {x:02X}: {:02X} {:02X} {:02X}, box {boxed:02X}",
+            trail.code, trail.inverse, trail.byte
+        )?;
     }
     Ok(())
 }

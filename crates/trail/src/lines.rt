@@ -2,60 +2,83 @@
 use crate::steps::{Steps, follow};
 use rings::Ring;
 use rings::poly::Octic;
-use std::io;
+use std::{fmt, io};
 use towers::pair::Pair;
 use words::Word;
 use words::shown::Shown;
 
+impl Steps {
+    // Whether the byte that came back is the inverse found directly, 0 for 0.
+    fn agrees(&self) -> bool {
+        Octic::new(0x11b).inverse(self.byte).unwrap_or(0) == self.trail.byte
+    }
+}
+
+impl fmt::Display for Steps {
+    fn fmt<W: fmt::Write>(&self, f: &mut fmt::Formatter<W>) -> fmt::Result {
+        let trail = self.trail;
+        write!(
+            f,
+            "{:02X}: code {:02X}, norm {:X}",
+            self.byte, trail.code, self.norm
+        )?;
+        match self.norm_inverse {
+            Some(inverse) => write!(f, ", its inverse {inverse:X}")?,
+            None => f.write_str(" without inverse")?,
+        }
+        write!(
+            f,
+            ", inverse code {:02X}, byte {:02X}, box A {:02X}",
+            trail.inverse, trail.byte, self.boxed
+        )
+    }
+}
+
 // How many bytes there were, and how many of them went to their inverse modulo 11B.
-#[derive(Drop)]
+#[derive(Clone, Copy, Default)]
 pub struct Report {
-    pub agree: usize,
-    pub bytes: usize,
+    agree: usize,
+    bytes: usize,
 }
 
-fn print_steps(rt: &impl Print, s: &Steps) -> io::Result<()> {
-    let byte = s.byte;
-    let code = s.trail.code;
-    let norm = s.norm;
-    print!(rt; "{byte:02X}: code {code:02X}, norm {norm:X}")?;
-    match s.norm_inverse {
-        Some(m) => print!(rt; ", its inverse {m:X}")?,
-        None => print!(rt; " without inverse")?,
+impl Report {
+    fn add(&mut self, steps: &Steps) {
+        self.bytes = self.bytes.saturating_add(1);
+        self.agree = self.agree.saturating_add(usize::from(steps.agrees()));
     }
-    let inverse = s.trail.inverse;
-    let back = s.trail.byte;
-    let boxed = s.boxed;
-    println!(rt; ", inverse code {inverse:02X}, byte {back:02X}, box A {boxed:02X}")
 }
 
-// Whether the byte that came back is the inverse found directly, 0 for 0.
-fn agrees(s: &Steps) -> bool {
-    Octic::new(0x11b).inverse(s.byte).unwrap_or(0) == s.trail.byte
-}
-
-fn print_word(rt: &impl Print, pair: &Pair, w: Word, report: &mut Report) -> io::Result<()> {
-    let Some(byte) = words::hex_byte(w.part) else {
-        let place = w.place;
-        let word = Shown(w.part);
-        return println!(rt;
-            "{word} at {place} is no byte: two hexadecimal digits, letters as capitals"
-        );
-    };
-    let s = follow(pair, byte);
-    report.bytes = report.bytes.saturating_add(1);
-    if agrees(&s) {
-        report.agree = report.agree.saturating_add(1);
+impl fmt::Display for Report {
+    fn fmt<W: fmt::Write>(&self, f: &mut fmt::Formatter<W>) -> fmt::Result {
+        write!(
+            f,
+            "{} of {} agree with the inverse modulo 11B",
+            self.agree, self.bytes
+        )
     }
-    print_steps(rt, &s)
+}
+
+fn print_bad(rt: &impl Print, word: Word) -> io::Result<()> {
+    println!(rt;
+        "{} at {} is no byte: two hexadecimal digits, letters as capitals",
+        Shown(word.part),
+        word.place
+    )
 }
 
 // One line for each word.
 pub(crate) fn print_all(rt: &impl Print, pair: &Pair, text: &[u8]) -> io::Result<Report> {
-    let mut report = Report { agree: 0, bytes: 0 };
+    let mut report = Report::default();
     let mut reader = words::over(text);
-    while let Some(w) = reader.word() {
-        print_word(rt, pair, w, &mut report)?;
+    while let Some(word) = reader.word() {
+        match words::hex_byte(word.part) {
+            Some(byte) => {
+                let steps = follow(pair, byte);
+                report.add(&steps);
+                println!(rt; "{steps}")?;
+            }
+            None => print_bad(rt, word)?,
+        }
     }
     Ok(report)
 }

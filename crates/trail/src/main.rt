@@ -4,7 +4,6 @@
 mod lines;
 mod steps;
 
-use lines::Report;
 use rings::poly::Quartic;
 use std::io;
 use std::io::Read;
@@ -13,8 +12,7 @@ use towers::pair::Pair;
 fn report(rt: &HostRuntime, pair: &Pair) -> io::Result<()> {
     let mut text = Vec::new(rt.alloc());
     rt.stdin().read_to_end(&mut text)?;
-    let Report { agree, bytes } = lines::print_all(rt, pair, &text)?;
-    println!(rt; "{agree} of {bytes} agree with the inverse modulo 11B")
+    println!(rt; "{}", lines::print_all(rt, pair, &text)?)
 }
 
 fn main(rt: HostRuntime) -> io::Result<()> {
