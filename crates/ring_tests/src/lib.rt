@@ -32,22 +32,14 @@ mod tests {
     fn two_forms(rt: HostRuntime) {
         for a in 0..=255u8 {
             assert!(rt; Quartic::Ring13.inverse(a) == Powers13.inverse(a));
-            for b in 0..16u8 {
-                assert!(rt; Quartic::Ring13.product(a, b) == Powers13.product(a, b));
-                assert!(rt; Quartic::Ring13.product(b, a) == Powers13.product(a, b));
-            }
+            assert!(rt; (0..16).all(|b| Quartic::Ring13.product(a, b) == Powers13.product(a, b)));
+            assert!(rt; (0..16).all(|b| Quartic::Ring13.product(b, a) == Powers13.product(a, b)));
         }
     }
 
-    fn invertible(number: u16) -> u16 {
+    fn invertible(number: u16) -> usize {
         let ring = Octic::new(number);
-        let mut count = 0u16;
-        for a in 0..=255u8 {
-            if ring.inverse(a).is_some() {
-                count = count.saturating_add(1);
-            }
-        }
-        count
+        (0..=255u8).filter(|a| ring.inverse(*a).is_some()).count()
     }
 
     // As many codes have an inverse as are prime to the modulus, counted apart by Euclid's algorithm.
@@ -65,10 +57,8 @@ mod tests {
     fn constants(rt: HostRuntime) {
         let low = Pairing::new(Quartic::Ring13, 0x0c);
         let high = Pairing::new(Quartic::Ring13, 0x5c);
-        for a in 0..=255u8 {
-            assert!(rt; low.product(a, 0x9d) == high.product(a, 0x9d));
-            assert!(rt; low.norm(a) == high.norm(a));
-        }
+        assert!(rt; (0..=255u8).all(|a| low.product(a, 0x9d) == high.product(a, 0x9d)));
+        assert!(rt; (0..=255u8).all(|a| low.norm(a) == high.norm(a)));
         // (V Y) (V Y) = (V + 1) (Y + V) = (V + 1) Y + 1
         assert_eq!(rt; Pairing::new(Four, 6).product(0x8, 0x8), 0xd);
     }
