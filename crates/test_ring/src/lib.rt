@@ -9,7 +9,7 @@ ghost use Rattle.std.proofs.Common.{rules};
 use rings::Ring;
 use rings::powers::Powers13;
 
-// Each code with its bits 1 and 3 exchanged.
+// Each code with its bits 1 and 3 exchanged: the table that the specification has.
 const CODES: [u8; 16] = [0, 1, 8, 9, 4, 5, 12, 13, 2, 3, 10, 11, 6, 7, 14, 15];
 
 fn exchange_bits(a: u8) -> u8

@@ -1,4 +1,5 @@
 // Published vectors of the standards: each function gives the published bytes, and its contract says that the definitions give the same.
+// Each has a function of its own, since a constant has no contract, and one function for all would prove all of them at each change.
 #![tactic(auto)]
 
 ghost use Rattle.std.specs.Prelude.{◌≡◌, ◌++◌, get_or};
