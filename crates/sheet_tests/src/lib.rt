@@ -6,80 +6,80 @@ mod tests {
     use ciphers::keys::Cipher;
     use sheets::faults::ReadError;
     use sheets::read::read_sheet;
-    use std::alloc::Global;
+    use std::alloc::{AllocError, Global};
     use std::test::Fail;
     use watch::side::Side;
 
-    // Sheets, each with the refusal's number and place, or with 0 and the count of its sectors.
-    const SHEETS: [(&str, u8, usize); 28] = [
-        ("", 14, 0),
-        (" \n  ", 14, 4),
-        ("0 0 0", 0, 0),
-        ("\n00  0\n0 ", 0, 0),
-        ("0 0", 14, 3),
-        ("0\t0 0 0", 14, 0),
-        ("0 0\r 0", 14, 2),
-        ("0 0 0\0", 14, 4),
-        ("0 0 0 é", 15, 6),
-        ("0 0 é", 14, 4),
-        ("0 0 0 x", 15, 6),
-        ("0 0 0 0", 15, 6),
-        ("0 0 x y", 14, 4),
-        ("65", 14, 0),
-        ("100", 14, 0),
-        ("065", 14, 0),
-        ("64", 14, 2),
-        ("1 H 11B 0 0", 0, 0),
-        ("1 h 11B 0 0", 14, 2),
-        ("1 HD 11B 0 0", 14, 2),
-        ("1 H 11b 0 0", 14, 4),
-        ("1 H 11 0 0", 14, 4),
-        ("1 H 011B 0 0", 14, 4),
-        ("0 1 D B 00 0", 14, 6),
-        ("0 1 D S 000102030405060708090A0B0C0D0E0F 0", 0, 0),
-        ("0 1 D S 000102030405060708090A0B0C0D0E0 0", 14, 8),
-        ("0 0 1 H 00F", 14, 8),
-        ("0 0 2 H 00 D FF", 0, 2),
+    // What a sheet is answered by: the count of its sectors, or the refusal's number and place.
+    type Answer = Result<usize, (u8, usize)>;
+
+    const SHEETS: [(&str, Answer); 28] = [
+        ("", Err((14, 0))),
+        (" \n  ", Err((14, 4))),
+        ("0 0 0", Ok(0)),
+        ("\n00  0\n0 ", Ok(0)),
+        ("0 0", Err((14, 3))),
+        ("0\t0 0 0", Err((14, 0))),
+        ("0 0\r 0", Err((14, 2))),
+        ("0 0 0\0", Err((14, 4))),
+        ("0 0 0 é", Err((15, 6))),
+        ("0 0 é", Err((14, 4))),
+        ("0 0 0 x", Err((15, 6))),
+        ("0 0 0 0", Err((15, 6))),
+        ("0 0 x y", Err((14, 4))),
+        ("65", Err((14, 0))),
+        ("100", Err((14, 0))),
+        ("065", Err((14, 0))),
+        ("64", Err((14, 2))),
+        ("1 H 11B 0 0", Ok(0)),
+        ("1 h 11B 0 0", Err((14, 2))),
+        ("1 HD 11B 0 0", Err((14, 2))),
+        ("1 H 11b 0 0", Err((14, 4))),
+        ("1 H 11 0 0", Err((14, 4))),
+        ("1 H 011B 0 0", Err((14, 4))),
+        ("0 1 D B 00 0", Err((14, 6))),
+        ("0 1 D S 000102030405060708090A0B0C0D0E0F 0", Ok(0)),
+        ("0 1 D S 000102030405060708090A0B0C0D0E0 0", Err((14, 8))),
+        ("0 0 1 H 00F", Err((14, 8))),
+        ("0 0 2 H 00 D FF", Ok(2)),
     ];
 
-    fn answer(heap: Global, sheet: &[u8]) -> (u8, usize) {
+    fn answer(heap: Global, sheet: &[u8]) -> Result<Answer, AllocError> {
         match read_sheet(heap, sheet) {
-            Ok(read) => (0, read.sectors.len()),
-            Err(ReadError::Bad(fault)) => (fault.refusal.number(), fault.place),
-            Err(ReadError::NoMemory) => (255, 0),
+            Ok(read) => Ok(Ok(read.sectors.len())),
+            Err(ReadError::Bad(fault)) => Ok(Err((fault.refusal.number(), fault.place))),
+            Err(ReadError::NoMemory) => Err(AllocError),
         }
     }
 
     #[test]
-    fn examples(rt: HostRuntime) {
-        for (sheet, number, place) in SHEETS {
-            assert_eq!(rt;
-                answer(rt.alloc(), sheet.as_bytes()),
-                (number, place),
-                "{}",
-                sheet
-            );
+    fn examples(rt: HostRuntime) -> Result<(), Fail> {
+        for (sheet, expected) in SHEETS {
+            assert_eq!(rt; answer(rt.alloc(), sheet.as_bytes())?, expected, "{sheet}");
         }
+        Ok(())
     }
 
     // Three counts, and blanks up to the longest sheet or one byte past it.
     #[test]
-    fn longest(rt: HostRuntime) {
+    fn longest(rt: HostRuntime) -> Result<(), Fail> {
         let mut sheet = [b' '; 16385];
         sheet[0] = b'0';
         sheet[2] = b'0';
         sheet[4] = b'0';
-        assert_eq!(rt; answer(rt.alloc(), &sheet[0..16384]), (0, 0));
-        assert_eq!(rt; answer(rt.alloc(), &sheet), (13, 16384));
+        assert_eq!(rt; answer(rt.alloc(), &sheet[..16384])?, Ok(0));
+        assert_eq!(rt; answer(rt.alloc(), &sheet)?, Err((13, 16384)));
+        Ok(())
     }
 
     // A sector of 512 digits, and one of 514.
     #[test]
-    fn sectors(rt: HostRuntime) {
+    fn sectors(rt: HostRuntime) -> Result<(), Fail> {
         let mut sheet = [b'A'; 522];
         sheet[0..8].copy_from_slice(b"0 0 1 H ");
-        assert_eq!(rt; answer(rt.alloc(), &sheet[0..520]), (0, 1));
-        assert_eq!(rt; answer(rt.alloc(), &sheet), (14, 8));
+        assert_eq!(rt; answer(rt.alloc(), &sheet[..520])?, Ok(1));
+        assert_eq!(rt; answer(rt.alloc(), &sheet)?, Err((14, 8)));
+        Ok(())
     }
 
     #[test]
