@@ -2,15 +2,22 @@
 use ends::records::Told;
 use ends::ticket::Ticket;
 use refusals::Refusal;
-use rings::Ring;
-use std::io;
+use rings::pairing::Pairing;
+use rings::poly::{Four, Quartic};
+use std::{fmt, io};
 use watch::side::Side;
 use watch::two::Watch;
 
-fn name_of(side: Side) -> &'static str {
-    match side {
-        Side::First => "first",
-        Side::Second => "second",
+// An end as the report names it.
+#[derive(Clone, Copy)]
+struct Name(Side);
+
+impl fmt::Display for Name {
+    fn fmt<W: fmt::Write>(&self, f: &mut fmt::Formatter<W>) -> fmt::Result {
+        f.write_str(match self.0 {
+            Side::First => "first",
+            Side::Second => "second",
+        })
     }
 }
 
@@ -21,139 +28,108 @@ fn other(side: Side) -> Side {
     }
 }
 
-fn print_answer(rt: &HostRuntime, answer: Result<(), Refusal>) -> io::Result<()> {
-    match answer {
-        Ok(()) => println!(rt; "accepted"),
-        Err(refusal) => {
-            let number = refusal.number();
-            println!(rt; "refused with {number}, {refusal}")
+// Bytes by their digits.
+#[derive(Clone, Copy)]
+struct Digits<'a>(&'a [u8]);
+
+impl fmt::Display for Digits<'_> {
+    fn fmt<W: fmt::Write>(&self, f: &mut fmt::Formatter<W>) -> fmt::Result {
+        for b in self.0 {
+            write!(f, "{b:02X}")?;
+        }
+        Ok(())
+    }
+}
+
+// A refusal with its number.
+#[derive(Clone, Copy)]
+struct Refused(Refusal);
+
+impl fmt::Display for Refused {
+    fn fmt<W: fmt::Write>(&self, f: &mut fmt::Formatter<W>) -> fmt::Result {
+        write!(f, "refused with {}, {}", self.0.number(), self.0)
+    }
+}
+
+// Two ends of a link, and where the report goes.
+#[derive(Drop)]
+pub struct Link<'a> {
+    pub rt: &'a HostRuntime,
+    pub ends: Watch<Quartic, Pairing<Four>>,
+}
+
+impl Link<'_> {
+    pub(crate) fn fit(&mut self, side: Side, octic: u16) -> io::Result<()> {
+        let name = Name(side);
+        match self.ends.fit(side, octic) {
+            Ok(pair) => println!(self.rt;
+                "{name} fit {octic:03X}: c {}, {} ones",
+                pair.c, pair.ones
+            ),
+            Err(refusal) => println!(self.rt; "{name} fit {octic:03X}: {}", Refused(refusal)),
         }
     }
-}
 
-fn print_bytes(rt: &HostRuntime, bytes: &[u8]) -> io::Result<()> {
-    for b in bytes {
-        print!(rt; "{b:02X}")?;
-    }
-    println!(rt; "")
-}
-
-pub(crate) fn print_fit<X: Ring, Y: Ring>(
-    rt: &HostRuntime,
-    w: &mut Watch<X, Y>,
-    side: Side,
-    octic: u16,
-) -> io::Result<()> {
-    let name = name_of(side);
-    print!(rt; "{name} fit {octic:03X}: ")?;
-    match w.fit(side, octic) {
-        Ok(answer) => {
-            let c = answer.c;
-            let ones = answer.ones;
-            println!(rt; "c {c}, {ones} ones")
+    pub(crate) fn key(&mut self, side: Side, letter: char, key: &[u8]) -> io::Result<()> {
+        let name = Name(side);
+        match self.ends.key(side, letter, key, &mut [0; 176]) {
+            Ok(()) => println!(self.rt; "{name} key {letter}: accepted"),
+            Err(refusal) => println!(self.rt; "{name} key {letter}: {}", Refused(refusal)),
         }
-        Err(refusal) => print_answer(rt, Err(refusal)),
     }
-}
 
-pub(crate) fn print_key<X: Ring, Y: Ring>(
-    rt: &HostRuntime,
-    w: &mut Watch<X, Y>,
-    side: Side,
-    letter: char,
-    key: &[u8],
-) -> io::Result<()> {
-    let name = name_of(side);
-    let mut work = [0u8; 176];
-    print!(rt; "{name} key {letter}: ")?;
-    print_answer(rt, w.key(side, letter, key, &mut work))
-}
+    pub(crate) fn wipe(&mut self, side: Side) -> io::Result<()> {
+        self.ends.wipe(side);
+        println!(self.rt; "{} wipe", Name(side))
+    }
 
-pub(crate) fn print_wipe<X: Ring, Y: Ring>(
-    rt: &HostRuntime,
-    w: &mut Watch<X, Y>,
-    side: Side,
-) -> io::Result<()> {
-    let name = name_of(side);
-    w.wipe(side);
-    println!(rt; "{name} wipe")
-}
-
-pub(crate) fn print_tell<X: Ring, Y: Ring>(
-    rt: &HostRuntime,
-    w: &mut Watch<X, Y>,
-    side: Side,
-) -> io::Result<()> {
-    let name = name_of(side);
-    let mut told = Told {
-        c: 0,
-        ones: 0,
-        columns: [0; 16],
-    };
-    print!(rt; "{name} tell: ")?;
-    match w.tell(side, &mut told) {
-        Ok(()) => {
-            let c = told.c;
-            let ones = told.ones;
-            print!(rt; "c {c}, {ones} ones, columns ")?;
-            print_bytes(rt, &told.columns)
+    pub(crate) fn tell(&self, side: Side) -> io::Result<()> {
+        let name = Name(side);
+        let mut told = Told {
+            c: 0,
+            ones: 0,
+            columns: [0; 16],
+        };
+        match self.ends.tell(side, &mut told) {
+            Ok(()) => {
+                let columns = Digits(&told.columns);
+                println!(self.rt;
+                    "{name} tell: c {}, {} ones, columns {columns}",
+                    told.c, told.ones
+                )
+            }
+            Err(refusal) => println!(self.rt; "{name} tell: {}", Refused(refusal)),
         }
-        Err(refusal) => print_answer(rt, Err(refusal)),
     }
-}
 
-// Opens what was sealed, at the other end.
-fn print_open<X: Ring, Y: Ring>(
-    rt: &HostRuntime,
-    w: &Watch<X, Y>,
-    side: Side,
-    name: u16,
-    number: u64,
-    bytes: &mut [u8],
-) -> io::Result<()> {
-    let end = name_of(side);
-    print!(rt; "{end} open {name} {number}: ")?;
-    match w.open(side, name, number, bytes) {
-        Ok(()) => print_bytes(rt, bytes),
-        Err(refusal) => print_answer(rt, Err(refusal)),
-    }
-}
-
-fn print_seal<X: Ring, Y: Ring>(
-    rt: &HostRuntime,
-    w: &Watch<X, Y>,
-    side: Side,
-    ticket: Ticket,
-    bytes: &mut [u8],
-) -> io::Result<()> {
-    let end = name_of(side);
-    let name = ticket.name();
-    let number = ticket.number();
-    let sealed = w.seal(side, ticket, bytes);
-    print!(rt; "{end} seal {name} {number}: ")?;
-    match sealed {
-        Ok(()) => {
-            print_bytes(rt, bytes)?;
-            print_open(rt, w, other(side), name, number, bytes)
+    // Opens what was sealed, at the other end.
+    fn open(&self, side: Side, name: u16, number: u64, bytes: &mut [u8]) -> io::Result<()> {
+        let end = Name(side);
+        match self.ends.open(side, name, number, bytes) {
+            Ok(()) => println!(self.rt; "{end} open {name} {number}: {}", Digits(bytes)),
+            Err(refusal) => println!(self.rt; "{end} open {name} {number}: {}", Refused(refusal)),
         }
-        Err(refusal) => print_answer(rt, Err(refusal)),
     }
-}
 
-// A sector: drawn and sealed at one end, and opened at the other.
-pub(crate) fn print_sector<X: Ring, Y: Ring>(
-    rt: &HostRuntime,
-    w: &mut Watch<X, Y>,
-    side: Side,
-    text: &[u8],
-) -> io::Result<()> {
-    let mut bytes = text.to_vec(rt.alloc())?;
-    match w.draw(side) {
-        Ok(ticket) => print_seal(rt, w, side, ticket, &mut bytes),
-        Err(refusal) => {
-            let end = name_of(side);
-            print!(rt; "{end} draw: ")?;
-            print_answer(rt, Err(refusal))
+    fn seal(&self, side: Side, ticket: Ticket, bytes: &mut [u8]) -> io::Result<()> {
+        let end = Name(side);
+        let name = ticket.name();
+        let number = ticket.number();
+        match self.ends.seal(side, ticket, bytes) {
+            Ok(()) => {
+                println!(self.rt; "{end} seal {name} {number}: {}", Digits(bytes))?;
+                self.open(other(side), name, number, bytes)
+            }
+            Err(refusal) => println!(self.rt; "{end} seal {name} {number}: {}", Refused(refusal)),
+        }
+    }
+
+    // A sector: drawn and sealed at one end, and opened at the other.
+    pub(crate) fn sector(&mut self, side: Side, text: &[u8]) -> io::Result<()> {
+        let mut bytes = text.to_vec(self.rt.alloc())?;
+        match self.ends.draw(side) {
+            Ok(ticket) => self.seal(side, ticket, &mut bytes),
+            Err(refusal) => println!(self.rt; "{} draw: {}", Name(side), Refused(refusal)),
         }
     }
 }
