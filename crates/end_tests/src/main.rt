@@ -2,72 +2,57 @@
 #![tactic(auto)]
 
 use ends::end::End;
-use ends::records::{Answer, Told};
+use ends::records::Told;
 use ends::ticket::{Ticket, burn};
 use refusals::Refusal;
 use rings::Ring;
 use rings::pairing::Pairing;
 use rings::poly::{Four, Octic, Quartic};
-use std::io;
+use std::alloc::{AllocError, Global};
+use std::iter::successors;
+use std::{fmt, io};
 
 const KEY: [u8; 17] = [0, 1, 2, 3, 4, 5, 6, 7, 8, 9, 10, 11, 12, 13, 14, 15, 16];
 
 // 0, or the number of the refusal.
-fn code(r: Result<(), Refusal>) -> u8 {
-    match r {
-        Ok(()) => 0,
-        Err(e) => e.number(),
-    }
-}
+#[derive(Clone, Copy)]
+struct Code<T>(Result<T, Refusal>);
 
-fn fit_code(r: Result<Answer, Refusal>) -> u8 {
-    match r {
-        Ok(_) => 0,
-        Err(e) => e.number(),
+impl<T> fmt::Display for Code<T> {
+    fn fmt<W: fmt::Write>(&self, f: &mut fmt::Formatter<W>) -> fmt::Result {
+        match &self.0 {
+            Ok(_) => f.write_str("0"),
+            Err(refusal) => write!(f, "{}", refusal.number()),
+        }
     }
 }
 
 // The hash FNV-1a.
 fn digest(bytes: &[u8]) -> u64 {
-    let mut d: u64 = 0xcbf29ce484222325;
-    for b in bytes {
-        d = (d ^ *b as u64).wrapping_mul(0x100000001b3);
-    }
-    d
+    bytes.iter().fold(0xcbf29ce484222325, |hash: u64, b| {
+        (hash ^ u64::from(*b)).wrapping_mul(0x100000001b3)
+    })
 }
 
 // The bytes 3, 10, 17 and so on.
-fn plain(bytes: &mut [u8]) {
-    let mut next: u8 = 3;
-    for b in bytes.iter_mut() {
-        *b = next;
-        next = next.wrapping_add(7);
-    }
+fn plain(heap: Global, length: usize) -> Result<Vec<u8>, AllocError> {
+    successors(Some(3u8), |b| Some(b.wrapping_add(7)))
+        .take(length)
+        .collect(heap)
 }
 
 fn print_columns(rt: &impl Print, told: &Told) -> io::Result<()> {
-    let c = told.c;
-    let ones = told.ones;
-    print!(rt; "T {c} {ones}")?;
+    print!(rt; "T {} {}", told.c, told.ones)?;
     for column in &told.columns {
-        let x = *column;
-        print!(rt; " {x:02X}")?;
+        print!(rt; " {column:02X}")?;
     }
     println!(rt)
 }
 
-fn print_trail<R: Ring>(rt: &impl Print, end: &End<R>, byte: u8) -> io::Result<()> {
-    match end.trail(byte) {
-        Ok(t) => {
-            let code = t.code;
-            let inverse = t.inverse;
-            let end = t.byte;
-            println!(rt; "W {byte:02X} {code:02X} {inverse:02X} {end:02X}")
-        }
-        Err(e) => {
-            let n = e.number();
-            println!(rt; "W {byte:02X} {n}")
-        }
+fn print_trail<R: Ring>(rt: &impl Print, end: &End<R>, x: u8) -> io::Result<()> {
+    match end.trail(x) {
+        Ok(t) => println!(rt; "W {x:02X} {:02X} {:02X} {:02X}", t.code, t.inverse, t.byte),
+        Err(refusal) => println!(rt; "W {x:02X} {}", refusal.number()),
     }
 }
 
@@ -92,85 +77,79 @@ fn print_fit<R: Ring>(
     octic: u16,
 ) -> io::Result<()> {
     match end.fit(octic) {
-        Ok(a) => {
-            let c = a.c;
-            let ones = a.ones;
-            println!(rt; "F {label} {octic:03X} 0 {c} {ones}")?;
+        Ok(pair) => {
+            println!(rt; "F {label} {octic:03X} 0 {} {}", pair.c, pair.ones)?;
             print_fitted(rt, end)
         }
-        Err(e) => {
-            let n = e.number();
-            println!(rt; "F {label} {octic:03X} {n}")
-        }
+        Err(refusal) => println!(rt; "F {label} {octic:03X} {}", refusal.number()),
     }
 }
 
-fn print_fits<R: Ring + Drop>(rt: &impl Print, label: &str, ring: R) -> io::Result<()> {
+fn print_fits<R: Ring + Drop>(
+    rt: &impl Print,
+    label: &str,
+    ring: R,
+    octics: &[u16],
+) -> io::Result<()> {
     let mut end = End::new(ring, 1, 0);
-    for octic in [0x0ff, 0x100, 0x11b, 0x11d, 0x1f5, 0x1ff, 0x200] {
-        print_fit(rt, label, &mut end, octic)?;
-    }
-    Ok(())
-}
-
-fn print_no_field<R: Ring + Drop>(rt: &impl Print, label: &str, ring: R) -> io::Result<()> {
-    let mut end = End::new(ring, 1, 0);
-    for octic in [0x0ff, 0x100, 0x11b] {
-        print_fit(rt, label, &mut end, octic)?;
+    for octic in octics {
+        print_fit(rt, label, &mut end, *octic)?;
     }
     Ok(())
 }
 
 fn fits(rt: &impl Print) -> io::Result<()> {
-    print_fits(rt, "13", Quartic::Ring13)?;
-    print_fits(rt, "19", Quartic::Ring19)?;
-    print_fits(rt, "1F", Quartic::Ring1F)?;
-    print_fits(rt, "F4", Pairing::new(Four, 2))?;
-    print_no_field(rt, "F4 alone", Four)?;
-    print_no_field(rt, "octic", Octic::new(0x11b))
+    let octics = [0x0ff, 0x100, 0x11b, 0x11d, 0x1f5, 0x1ff, 0x200];
+    print_fits(rt, "13", Quartic::Ring13, &octics)?;
+    print_fits(rt, "19", Quartic::Ring19, &octics)?;
+    print_fits(rt, "1F", Quartic::Ring1F, &octics)?;
+    print_fits(rt, "F4", Pairing::new(Four, 2), &octics)?;
+    // These two are no fields of width 4.
+    print_fits(rt, "F4 alone", Four, &[0x0ff, 0x100, 0x11b])?;
+    print_fits(rt, "octic", Octic::new(0x11b), &[0x0ff, 0x100, 0x11b])
 }
 
-// An end over ring 13 that is fitted, unless the octic is 0.
-fn fitted(octic: u16) -> End<Quartic> {
+// An end over ring 13, fitted for an octic or not at all.
+fn fitted(octic: Option<u16>) -> End<Quartic> {
     let mut end = End::new(Quartic::Ring13, 1, 0);
-    let _ = end.fit(octic);
+    if let Some(octic) = octic {
+        let _ = end.fit(octic);
+    }
     end
 }
 
 fn print_key(
-    rt: &impl Print,
-    octic: u16,
+    rt: &HostRuntime,
+    octic: Option<u16>,
     letter: char,
-    length: usize,
+    key: &[u8],
     room: usize,
 ) -> io::Result<()> {
-    let mut end = fitted(octic);
-    let mut area = [0xa5; 300];
-    let work = &mut area[0..room.min(300)];
-    let n = code(end.key(letter, &KEY[0..length.min(17)], work));
-    let mut left: u32 = 0;
-    for b in work.iter() {
-        left = left.wrapping_add(*b as u32);
-    }
-    println!(rt; "K {octic:03X} {letter} {length} {room} {n} {left}")
+    let mut work = vec![in rt.alloc(); 0xa5u8; room]?;
+    let code = Code(fitted(octic).key(letter, key, &mut work));
+    let left = work
+        .iter()
+        .fold(0u32, |sum, b| sum.wrapping_add(u32::from(*b)));
+    println!(rt;
+        "K {:03X} {letter} {} {room} {code} {left}",
+        octic.unwrap_or(0),
+        key.len()
+    )
 }
 
-fn print_keys(rt: &impl Print, octic: u16, letter: char) -> io::Result<()> {
-    let n = match fitted(octic).box_byte(letter, 0) {
-        Ok(_) => 0,
-        Err(e) => e.number(),
-    };
-    println!(rt; "B {octic:03X} {letter} {n}")?;
-    for length in [15, 16, 17] {
+fn print_keys(rt: &HostRuntime, octic: Option<u16>, letter: char) -> io::Result<()> {
+    let code = Code(fitted(octic).box_byte(letter, 0));
+    println!(rt; "B {:03X} {letter} {code}", octic.unwrap_or(0))?;
+    for key in [&KEY[..15], &KEY[..16], &KEY[..17]] {
         for room in [0, 175, 176, 300] {
-            print_key(rt, octic, letter, length, room)?;
+            print_key(rt, octic, letter, key, room)?;
         }
     }
     Ok(())
 }
 
-fn keys(rt: &impl Print) -> io::Result<()> {
-    for octic in [0, 0x11b, 0x1f5] {
+fn keys(rt: &HostRuntime) -> io::Result<()> {
+    for octic in [None, Some(0x11b), Some(0x1f5)] {
         for letter in ['A', 'S', 'B'] {
             print_keys(rt, octic, letter)?;
         }
@@ -179,16 +158,13 @@ fn keys(rt: &impl Print) -> io::Result<()> {
 }
 
 fn print_box(rt: &impl Print, end: &End<Quartic>, letter: char, byte: u8) -> io::Result<()> {
-    let out = match end.box_byte(letter, byte) {
-        Ok(b) => b,
-        Err(_) => 0,
-    };
-    println!(rt; "X {letter} {byte:02X} {out:02X}")
+    let boxed = end.box_byte(letter, byte).unwrap_or(0);
+    println!(rt; "X {letter} {byte:02X} {boxed:02X}")
 }
 
 fn boxes(rt: &impl Print) -> io::Result<()> {
     for (letter, octic) in [('A', 0x11b), ('S', 0x1f5)] {
-        let end = fitted(octic);
+        let end = fitted(Some(octic));
         for byte in [0x00, 0x01, 0x53, 0xff] {
             print_box(rt, &end, letter, byte)?;
         }
@@ -200,14 +176,10 @@ fn print_draw(rt: &impl Print, end: &mut End<Quartic>) -> io::Result<()> {
     match end.draw() {
         Ok(t) => {
             let name = t.name();
-            let number = t.number();
-            burn(t);
+            let number = burn(t);
             println!(rt; "D 0 {name} {number}")
         }
-        Err(e) => {
-            let n = e.number();
-            println!(rt; "D {n}")
-        }
+        Err(refusal) => println!(rt; "D {}", refusal.number()),
     }
 }
 
@@ -225,74 +197,71 @@ fn keyed<R: Ring>(ring: R, name: u16, first: u64, letter: char) -> End<R> {
     let octic = if letter == 'A' { 0x11b } else { 0x1f5 };
     let mut end = End::new(ring, name, first);
     let _ = end.fit(octic);
-    let mut work = [0; 176];
-    let _ = end.key(letter, &KEY[0..16], &mut work);
+    let _ = end.key(letter, &KEY[..16], &mut [0; 176]);
     end
 }
 
 // Seals with a ticket, if there is one.
-fn sealed<R: Ring>(end: &End<R>, ticket: Result<Ticket, Refusal>, bytes: &mut [u8]) -> u8 {
-    match ticket {
-        Ok(t) => code(end.seal(t, bytes)),
-        Err(e) => e.number(),
-    }
+fn sealed<R: Ring>(
+    end: &End<R>,
+    ticket: Result<Ticket, Refusal>,
+    bytes: &mut [u8],
+) -> Result<(), Refusal> {
+    end.seal(ticket?, bytes)
 }
 
-fn print_refused_seal(rt: &impl Print, has: u8, own: u8, n: usize) -> io::Result<()> {
+// An end that is keyed or wiped, and a ticket of its own or of another.
+fn print_refused_seal(rt: &HostRuntime, has_key: bool, own: bool, length: usize) -> io::Result<()> {
     let mut end = keyed(Quartic::Ring13, 1, 0, 'A');
     let mut other = End::new(Quartic::Ring13, 2, 0);
-    if has == 0 {
+    if !has_key {
         end.wipe();
     }
-    let ticket = if own == 1 { end.draw() } else { other.draw() };
-    let mut area = [0; 4097];
-    let r = sealed(&end, ticket, &mut area[0..n.min(4097)]);
-    println!(rt; "R {has} {own} {n} {r}")
+    let mut bytes = vec![in rt.alloc(); 0u8; length]?;
+    let ticket = if own { end.draw() } else { other.draw() };
+    let code = Code(sealed(&end, ticket, &mut bytes));
+    println!(rt; "R {} {} {length} {code}", u8::from(has_key), u8::from(own))
 }
 
-fn print_refused_open(rt: &impl Print, has: u8, n: usize) -> io::Result<()> {
+fn print_refused_open(rt: &HostRuntime, has_key: bool, length: usize) -> io::Result<()> {
     let mut end = keyed(Quartic::Ring13, 1, 0, 'A');
-    if has == 0 {
+    if !has_key {
         end.wipe();
     }
-    let mut area = [0; 4097];
-    let r = code(end.open(9, 7, &mut area[0..n.min(4097)]));
-    println!(rt; "Q {has} {n} {r}")
+    let mut bytes = vec![in rt.alloc(); 0u8; length]?;
+    let code = Code(end.open(9, 7, &mut bytes));
+    println!(rt; "Q {} {length} {code}", u8::from(has_key))
 }
 
-fn refusals_in_order(rt: &impl Print) -> io::Result<()> {
-    for has in [0, 1] {
-        for own in [0, 1] {
-            for n in [0, 1, 4097] {
-                print_refused_seal(rt, has, own, n)?;
+fn refusals_in_order(rt: &HostRuntime) -> io::Result<()> {
+    for has_key in [false, true] {
+        for own in [false, true] {
+            for length in [0, 1, 4097] {
+                print_refused_seal(rt, has_key, own, length)?;
             }
         }
-        for n in [0, 1, 4097] {
-            print_refused_open(rt, has, n)?;
+        for length in [0, 1, 4097] {
+            print_refused_open(rt, has_key, length)?;
         }
     }
     Ok(())
 }
 
 // Opens a copy of the bytes at an end over another ring.
-fn print_open<R: Ring + Drop>(
-    rt: &impl Print,
+fn print_open<R: Ring>(
+    rt: &HostRuntime,
     label: &str,
     end: &End<R>,
     number: u64,
     bytes: &[u8],
 ) -> io::Result<()> {
-    let mut area = [0; 4097];
-    let n = bytes.len().min(4097);
-    let copy = &mut area[0..n];
-    copy.copy_from_slice(&bytes[0..n]);
-    let r = code(end.open(0xc0de, number, copy));
-    let d = digest(copy);
-    println!(rt; "O {label} {r} {d:016X}")
+    let mut copy = bytes.to_vec(rt.alloc())?;
+    let code = Code(end.open(0xc0de, number, &mut copy));
+    println!(rt; "O {label} {code} {:016X}", digest(&copy))
 }
 
 // Opens what was sealed at an end over each of four rings.
-fn print_opens(rt: &impl Print, letter: char, number: u64, bytes: &[u8]) -> io::Result<()> {
+fn print_opens(rt: &HostRuntime, letter: char, number: u64, bytes: &[u8]) -> io::Result<()> {
     let at_13 = keyed(Quartic::Ring13, 4, 0, letter);
     print_open(rt, "13", &at_13, number, bytes)?;
     let at_19 = keyed(Quartic::Ring19, 1, 0, letter);
@@ -305,61 +274,72 @@ fn print_opens(rt: &impl Print, letter: char, number: u64, bytes: &[u8]) -> io::
 
 // Seals a sector at an end over a ring, and opens it over each of the four.
 fn print_sector<R: Ring + Drop>(
-    rt: &impl Print,
+    rt: &HostRuntime,
     ring: R,
     letter: char,
     number: u64,
-    n: usize,
+    length: usize,
 ) -> io::Result<()> {
     let mut end = keyed(ring, 0xc0de, number, letter);
-    let mut area = [0; 4097];
-    let bytes = &mut area[0..n.min(4097)];
-    plain(bytes);
+    let mut bytes = plain(rt.alloc(), length)?;
     let ticket = end.draw();
-    let r = sealed(&end, ticket, bytes);
-    let d = digest(bytes);
-    println!(rt; "S {letter} {n} {r} {number} {d:016X}")?;
-    print_opens(rt, letter, number, bytes)
+    let code = Code(sealed(&end, ticket, &mut bytes));
+    println!(rt;
+        "S {letter} {length} {code} {number} {:016X}",
+        digest(&bytes)
+    )?;
+    print_opens(rt, letter, number, &bytes)
 }
 
-fn sectors(rt: &impl Print, letter: char) -> io::Result<()> {
-    let mut number: u64 = 0xfedcba9876543210;
-    for n in [0, 1, 15, 16, 17, 4096, 4097] {
-        print_sector(rt, Quartic::Ring13, letter, number, n)?;
-        number = number.wrapping_add(1);
+fn sectors(rt: &HostRuntime, letter: char) -> io::Result<()> {
+    let numbers = 0xfedcba9876543210..=u64::MAX;
+    for (number, length) in numbers.zip([0, 1, 15, 16, 17, 4096, 4097]) {
+        print_sector(rt, Quartic::Ring13, letter, number, length)?;
     }
     print_sector(rt, Quartic::Ring19, letter, 7, 33)?;
     print_sector(rt, Quartic::Ring1F, letter, 8, 33)?;
     print_sector(rt, Pairing::new(Four, 2), letter, 9, 33)
 }
 
-// Draws a ticket and seals one byte with it: its number, and what seal answers.
-fn drawn_and_sealed(end: &mut End<Quartic>) -> (u64, u8) {
-    let mut byte = [65];
+// A ticket's number, if one was drawn, and what the seal of one byte with it answered, or the draw.
+#[derive(Clone, Copy)]
+struct Outcome {
+    number: Option<u64>,
+    answer: Result<(), Refusal>,
+}
+
+impl fmt::Display for Outcome {
+    fn fmt<W: fmt::Write>(&self, f: &mut fmt::Formatter<W>) -> fmt::Result {
+        write!(f, "{} {}", self.number.unwrap_or(0), Code(self.answer))
+    }
+}
+
+// Draws a ticket and seals one byte with it.
+fn drawn_and_sealed(end: &mut End<Quartic>) -> Outcome {
     match end.draw() {
-        Ok(t) => {
-            let number = t.number();
-            (number, code(end.seal(t, &mut byte)))
-        }
-        Err(e) => (0, e.number()),
+        Ok(ticket) => Outcome {
+            number: Some(ticket.number()),
+            answer: end.seal(ticket, &mut [65]),
+        },
+        Err(refusal) => Outcome {
+            number: None,
+            answer: Err(refusal),
+        },
     }
 }
 
 // A wipe and a fit forget the key, and no call but draw moves the number.
 fn forgets(rt: &impl Print) -> io::Result<()> {
     let mut end = End::new(Quartic::Ring13, 1, 0);
-    let mut work = [0; 176];
-    let fit = fit_code(end.fit(0x11b));
-    let key = code(end.key('A', &KEY[0..16], &mut work));
-    let (first, sealed) = drawn_and_sealed(&mut end);
+    let fit = Code(end.fit(0x11b));
+    let key = Code(end.key('A', &KEY[..16], &mut [0; 176]));
+    let first = drawn_and_sealed(&mut end);
     end.wipe();
-    let (second, wiped) = drawn_and_sealed(&mut end);
-    let again = code(end.key('A', &KEY[0..16], &mut work));
-    let refit = fit_code(end.fit(0x11b));
-    let (third, refitted) = drawn_and_sealed(&mut end);
-    println!(rt;
-        "Z {fit} {key} {first} {sealed} {second} {wiped} {again} {refit} {third} {refitted}"
-    )
+    let second = drawn_and_sealed(&mut end);
+    let again = Code(end.key('A', &KEY[..16], &mut [0; 176]));
+    let refit = Code(end.fit(0x11b));
+    let third = drawn_and_sealed(&mut end);
+    println!(rt; "Z {fit} {key} {first} {second} {again} {refit} {third}")
 }
 
 fn main(rt: HostRuntime) -> io::Result<()> {
