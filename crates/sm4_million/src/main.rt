@@ -9,7 +9,7 @@ ghost use Rattle.ciphers.specs.Keys.{cipher_of};
 use boxes::Substitute;
 use boxes::direct::DirectS;
 use ciphers::keys::{Cipher, Schedule};
-use std::io;
+use std::{array, io};
 
 // Box S, worked out once for every byte.
 #[derive(Drop)]
@@ -21,11 +21,7 @@ struct Stored {
 fn every_byte() -> [u8; 256]
     ensures { result ≡ stored_s }
 {
-    let mut bytes = [0; 256];
-    for i in 0..256 {
-        bytes[i] = DirectS.substitute(i as u8);
-    }
-    bytes
+    array::from_fn(|i| DirectS.substitute(i as u8))
 }
 
 impl Stored {
@@ -44,7 +40,8 @@ impl Substitute for Stored {
     }
 }
 
-// A block that is encrypted again and again.
+// A block that is encrypted again and again. A loop: of a `fold` it stays open that each call leaves the closure as it was. The name
+// `next` is needed too: a call's result that is laid in `last` itself gets no proof.
 fn repeated(boxes: &Stored, keys: &Schedule, block: [u8; 16], times: u32) -> [u8; 16]
     ensures { result ≡ iterated (cipher_of box_s keys.now) times block }
 {
