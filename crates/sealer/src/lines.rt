@@ -1,7 +1,8 @@
 // Seals the sector of a request, and prints what came of it.
 use crate::request::{LineError, Part, Request, read};
 use boxes::Substitute;
-use boxes::direct::{DirectA, DirectS};
+use boxes::direct::Direct;
+use boxes::sbox::{BoxA, BoxS};
 use ciphers::counter::{counter_block, work_sector};
 use ciphers::keys::{Cipher, Schedule};
 use std::io;
@@ -55,7 +56,7 @@ fn seal<B: Substitute>(rt: &HostRuntime, boxes: &B, mut request: Request) -> Res
 pub(crate) fn print_sealed(rt: &HostRuntime, line: &str) -> Result<(), LineError> {
     let request = read(rt.alloc(), line)?;
     match request.cipher {
-        Cipher::Aes => seal(rt, &DirectA, request),
-        Cipher::Sm4 => seal(rt, &DirectS, request),
+        Cipher::Aes => seal(rt, &Direct(BoxA), request),
+        Cipher::Sm4 => seal(rt, &Direct(BoxS), request),
     }
 }

@@ -7,7 +7,8 @@ ghost use Rattle.sm4_million.specs.Stored.{stored_s, iterated};
 ghost use Rattle.ciphers.specs.Keys.{cipher_of};
 
 use boxes::Substitute;
-use boxes::direct::DirectS;
+use boxes::direct::Direct;
+use boxes::sbox::BoxS;
 use ciphers::keys::{Cipher, Schedule};
 use std::{array, io};
 
@@ -21,7 +22,7 @@ struct Stored {
 fn every_byte() -> [u8; 256]
     ensures { result ≡ stored_s }
 {
-    array::from_fn(|i| DirectS.substitute(i as u8))
+    array::from_fn(|i| Direct(BoxS).substitute(i as u8))
 }
 
 impl Stored {

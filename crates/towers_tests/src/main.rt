@@ -1,6 +1,7 @@
 // Prints the fit of every number of 16 bits over fields of sixteen codes, what other rings are refused, and trails of all bytes.
 #![tactic(auto)]
 
+use boxes::sbox::{BoxA, BoxS, Sbox};
 use refusals::Refusal;
 use rings::Ring;
 use rings::pairing::Pairing;
@@ -8,7 +9,7 @@ use rings::poly::{Four, Octic, Quartic};
 use rings::powers::Powers13;
 use std::{fmt, io};
 use test_ring::Exchanged;
-use towers::boxed::{box_a, box_s};
+use towers::boxed::box_byte;
 use towers::fit;
 use towers::pair::Pair;
 use towers::trail::trail_of;
@@ -50,17 +51,14 @@ fn print_fits<R: Ring>(rt: &HostRuntime, name: &str, ring: &R) -> io::Result<()>
     println!(rt; "{name} refused: 1 {first}, 2 {second}, 3 {third}")
 }
 
-fn print_trails<R: Ring>(rt: &impl Print, name: &str, ring: &R, octic: u16) -> io::Result<()> {
+fn print_trails<B: Sbox, R: Ring>(rt: &impl Print, name: &str, ring: &R) -> io::Result<()> {
+    let octic = B::OCTIC;
     let Ok(pair) = fit(ring, octic) else {
         return Ok(());
     };
     for x in 0..=255 {
         let trail = trail_of(ring, &pair, x);
-        let boxed = if octic == 0x11b {
-            box_a(ring, &pair, x)
-        } else {
-            box_s(ring, &pair, x)
-        };
+        let boxed = box_byte::<B, R>(ring, &pair, x);
         println!(rt;
             "{name} {octic:03X} {x:02X}: {:02X} {:02X} {:02X}, box {boxed:02X}",
             trail.code, trail.inverse, trail.byte
@@ -81,10 +79,10 @@ fn main(rt: HostRuntime) -> io::Result<()> {
     print_fits(&rt, "4", &Four)?;
     print_fits(&rt, "11B", &Octic::new(0x11b))?;
     print_fits(&rt, "4:2:8", &Pairing::new(Pairing::new(Four, 2), 8))?;
-    print_trails(&rt, "13", &Quartic::Ring13, 0x11b)?;
-    print_trails(&rt, "13", &Quartic::Ring13, 0x1f5)?;
-    print_trails(&rt, "4:2", &Pairing::new(Four, 2), 0x11b)?;
-    print_trails(&rt, "4:2", &Pairing::new(Four, 2), 0x1f5)?;
-    print_trails(&rt, "test", &Exchanged, 0x11b)?;
-    print_trails(&rt, "test", &Exchanged, 0x1f5)
+    print_trails::<BoxA, _>(&rt, "13", &Quartic::Ring13)?;
+    print_trails::<BoxS, _>(&rt, "13", &Quartic::Ring13)?;
+    print_trails::<BoxA, _>(&rt, "4:2", &Pairing::new(Four, 2))?;
+    print_trails::<BoxS, _>(&rt, "4:2", &Pairing::new(Four, 2))?;
+    print_trails::<BoxA, _>(&rt, "test", &Exchanged)?;
+    print_trails::<BoxS, _>(&rt, "test", &Exchanged)
 }

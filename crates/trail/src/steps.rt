@@ -1,10 +1,11 @@
 // The way of one byte through the tower over ring 13.
 ghost use Rattle.trail.specs.Steps.{Way};
 
+use boxes::sbox::BoxA;
 use rings::Ring;
 use rings::pairing::Lent;
 use rings::poly::Quartic;
-use towers::boxed::box_a;
+use towers::boxed::box_byte;
 use towers::pair::Pair;
 use towers::trail::{Trail, trail_of};
 
@@ -29,6 +30,6 @@ pub(crate) fn follow(pair: &Pair, byte: u8) -> Steps
         trail,
         norm,
         norm_inverse: ring.inverse(norm),
-        boxed: box_a(&ring, pair, byte),
+        boxed: box_byte::<BoxA, Quartic>(&ring, pair, byte),
     }
 }
