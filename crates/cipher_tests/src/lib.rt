@@ -8,6 +8,9 @@ mod tests {
     use ciphers::counter::{work_from, work_sector};
     use ciphers::keys::{Cipher, Schedule};
     use refusals::Refusal;
+    use std::alloc::{AllocError, Global};
+    use std::iter::successors;
+    use std::process::Abort;
     use std::test::Fail;
 
     const KEY: [u8; 16] = [0, 1, 2, 3, 4, 5, 6, 7, 8, 9, 10, 11, 12, 13, 14, 15];
@@ -35,87 +38,100 @@ mod tests {
         (4096, 0x7df698c4eddc19dd),
     ];
 
-    // A block under a key, as numbers, and 0 where the key is refused.
-    fn block<B: Substitute>(boxes: &B, cipher: Cipher, key: u128, block: u128) -> u128 {
-        let mut work = [0u8; 176];
-        match Schedule::new(boxes, cipher, &key.to_be_bytes(), &mut work) {
-            Ok(keys) => u128::from_be_bytes(keys.encrypt(boxes, block.to_be_bytes())),
-            Err(_) => 0,
-        }
+    // The key of FIPS 197, appendix B, and of SP 800-38A.
+    const NIST_KEY: u128 = 0x2b7e151628aed2a6abf7158809cf4f3c;
+
+    // SP 800-38A, F.5.1: the first counter block, the four blocks and what they are sealed to.
+    const FIRST: u128 = 0xf0f1f2f3f4f5f6f7f8f9fafbfcfdfeff;
+
+    const PLAINTEXT: [u128; 4] = [
+        0x6bc1bee22e409f96e93d7e117393172a,
+        0xae2d8a571e03ac9c9eb76fac45af8e51,
+        0x30c81c46a35ce411e5fbc1191a0a52ef,
+        0xf69f2445df4f9b17ad2b417be66c3710,
+    ];
+
+    const CIPHERTEXT: [u128; 4] = [
+        0x874d6191b620e3261bef6864990db6ce,
+        0x9806f66b7970fdff8617187bb9fffdff,
+        0x5ae4df3edbd5d35e5b4f09020db03eab,
+        0x1e031dda2fbe03d1792170a0f3009cee,
+    ];
+
+    // The schedule of a key that is given as a number.
+    fn schedule<B: Substitute>(boxes: &B, cipher: Cipher, key: u128) -> Result<Schedule, Refusal> {
+        Schedule::new(boxes, cipher, &key.to_be_bytes(), &mut [0; 176])
+    }
+
+    // A block under a key, as numbers.
+    fn block<B: Substitute>(
+        boxes: &B,
+        cipher: Cipher,
+        key: u128,
+        block: u128,
+    ) -> Result<u128, Refusal> {
+        let keys = schedule(boxes, cipher, key)?;
+        Ok(u128::from_be_bytes(keys.encrypt(boxes, block.to_be_bytes())))
     }
 
     fn digest(bytes: &[u8]) -> u64 {
-        let mut sum = 0u64;
-        for b in bytes {
-            sum = sum.wrapping_mul(31).wrapping_add(*b as u64);
-        }
-        sum
+        bytes.iter().fold(0, |sum: u64, b| {
+            sum.wrapping_mul(31).wrapping_add(u64::from(*b))
+        })
     }
 
     // The bytes 3, 10, 17 and so on.
-    fn sector() -> [u8; 4097] {
-        let mut bytes = [0u8; 4097];
-        let mut next = 3u8;
-        for b in bytes.iter_mut() {
-            *b = next;
-            next = next.wrapping_add(7);
-        }
-        bytes
+    fn sector(heap: Global, length: usize) -> Result<Vec<u8>, AllocError> {
+        successors(Some(3u8), |b| Some(b.wrapping_add(7)))
+            .take(length)
+            .collect(heap)
     }
 
-    fn sealed_part<B: Substitute>(
-        boxes: &B,
-        keys: &Schedule,
-        name: u16,
-        number: u64,
-        bytes: &mut [u8],
-    ) -> Result<u64, Refusal> {
-        work_sector(boxes, keys, name, number, bytes)?;
-        Ok(digest(bytes))
-    }
-
-    // The digest of a sealed sector of some length, or the refusal.
+    // The digest of a sector once it is sealed, or the refusal.
     fn sealed<B: Substitute>(
         boxes: &B,
         cipher: Cipher,
         name: u16,
         number: u64,
-        length: usize,
+        mut bytes: Vec<u8>,
     ) -> Result<u64, Refusal> {
-        let mut work = [0u8; 176];
-        let keys = Schedule::new(boxes, cipher, &KEY, &mut work)?;
-        let mut bytes = sector();
-        if length > 4097 {
-            return Ok(0);
-        }
-        sealed_part(boxes, &keys, name, number, &mut bytes[..length])
+        let keys = Schedule::new(boxes, cipher, &KEY, &mut [0; 176])?;
+        work_sector(boxes, &keys, name, number, &mut bytes)?;
+        Ok(digest(&bytes))
     }
 
-    // The refusal's number of a key and a work area of some lengths, or 0.
-    fn refused(cipher: Cipher, key_length: usize, work_length: usize) -> u8 {
-        let key = [1u8; 17];
-        let mut work = [5u8; 177];
-        if key_length > 17 || work_length > 177 {
-            return 255;
-        }
-        match Schedule::new(
-            &DirectA,
-            cipher,
-            &key[..key_length],
-            &mut work[..work_length],
-        ) {
-            Ok(_) => 0,
-            Err(e) => e.number(),
-        }
+    // The refusal's number of a key and a work area, or none.
+    fn refused(cipher: Cipher, key: &[u8], work: &mut [u8]) -> Option<u8> {
+        Schedule::new(&DirectA, cipher, key, work)
+            .err()
+            .map(|refusal| refusal.number())
     }
 
-    // Four blocks, one after the other.
-    fn joined(blocks: [u128; 4]) -> [u8; 64] {
-        let mut bytes = [0u8; 64];
-        for i in 0..64 {
-            bytes[i] = blocks[i / 16].to_be_bytes()[i % 16];
+    // Blocks one after the other.
+    fn joined(heap: Global, blocks: [u128; 4]) -> Result<Vec<u8>, AllocError> {
+        blocks
+            .map(|block| block.to_be_bytes())
+            .as_flattened()
+            .to_vec(heap)
+    }
+
+    // A table's sectors are sealed to its digests.
+    fn check_digests<B: Substitute>(
+        rt: &impl Abort,
+        heap: Global,
+        boxes: &B,
+        cipher: Cipher,
+        digests: [(usize, u64); 8],
+    ) -> Result<(), Fail> {
+        for (length, expected) in digests {
+            let bytes = sector(heap, length)?;
+            assert_eq!(rt;
+                sealed(boxes, cipher, 0xc0de, 0xfedcba9876543210, bytes),
+                Ok(expected),
+                "at {length}"
+            );
         }
-        bytes
+        Ok(())
     }
 
     #[test]
@@ -124,10 +140,10 @@ mod tests {
             block(
                 &DirectA,
                 Cipher::Aes,
-                0x2b7e151628aed2a6abf7158809cf4f3c,
+                NIST_KEY,
                 0x3243f6a8885a308d313198a2e0370734,
             ),
-            0x3925841d02dc09fbdc118597196a0b32
+            Ok(0x3925841d02dc09fbdc118597196a0b32)
         );
         assert_eq!(rt;
             block(
@@ -136,7 +152,7 @@ mod tests {
                 0x000102030405060708090a0b0c0d0e0f,
                 0x00112233445566778899aabbccddeeff,
             ),
-            0x69c4e0d86a7b0430d8cdb78070b4c55a
+            Ok(0x69c4e0d86a7b0430d8cdb78070b4c55a)
         );
     }
 
@@ -145,32 +161,17 @@ mod tests {
         let key = 0x0123456789abcdeffedcba9876543210;
         assert_eq!(rt;
             block(&DirectS, Cipher::Sm4, key, key),
-            0x681edf34d206965e86b3e94f536e4246
+            Ok(0x681edf34d206965e86b3e94f536e4246)
         );
     }
 
     // SP 800-38A, F.5.1.
     #[test]
     fn counter_mode(rt: HostRuntime) -> Result<(), Fail> {
-        let mut work = [0u8; 176];
-        let key: [u8; 16] = 0x2b7e151628aed2a6abf7158809cf4f3cu128.to_be_bytes();
-        let mut bytes = joined([
-            0x6bc1bee22e409f96e93d7e117393172a,
-            0xae2d8a571e03ac9c9eb76fac45af8e51,
-            0x30c81c46a35ce411e5fbc1191a0a52ef,
-            0xf69f2445df4f9b17ad2b417be66c3710,
-        ]);
-        let expected = joined([
-            0x874d6191b620e3261bef6864990db6ce,
-            0x9806f66b7970fdff8617187bb9fffdff,
-            0x5ae4df3edbd5d35e5b4f09020db03eab,
-            0x1e031dda2fbe03d1792170a0f3009cee,
-        ]);
-        let Ok(keys) = Schedule::new(&DirectA, Cipher::Aes, &key, &mut work) else {
-            return Err(Fail::new("the key is refused"));
-        };
-        let first = 0xf0f1f2f3f4f5f6f7f8f9fafbfcfdfeff;
-        assert!(rt; work_from(&DirectA, &keys, first, &mut bytes).is_ok());
+        let keys = schedule(&DirectA, Cipher::Aes, NIST_KEY)?;
+        let mut bytes = joined(rt.alloc(), PLAINTEXT)?;
+        let expected = joined(rt.alloc(), CIPHERTEXT)?;
+        work_from(&DirectA, &keys, FIRST, &mut bytes)?;
         assert!(rt; bytes == expected);
         Ok(())
     }
@@ -178,29 +179,13 @@ mod tests {
     // The same, and back by F.5.2.
     #[test]
     fn counter_mode_and_back(rt: HostRuntime) -> Result<(), Fail> {
-        let mut work = [0u8; 176];
-        let key: [u8; 16] = 0x2b7e151628aed2a6abf7158809cf4f3cu128.to_be_bytes();
-        let plain = joined([
-            0x6bc1bee22e409f96e93d7e117393172a,
-            0xae2d8a571e03ac9c9eb76fac45af8e51,
-            0x30c81c46a35ce411e5fbc1191a0a52ef,
-            0xf69f2445df4f9b17ad2b417be66c3710,
-        ]);
-        let expected = joined([
-            0x874d6191b620e3261bef6864990db6ce,
-            0x9806f66b7970fdff8617187bb9fffdff,
-            0x5ae4df3edbd5d35e5b4f09020db03eab,
-            0x1e031dda2fbe03d1792170a0f3009cee,
-        ]);
-        let Ok(keys) = Schedule::new(&DirectA, Cipher::Aes, &key, &mut work) else {
-            return Err(Fail::new("the key is refused"));
-        };
-        let first = 0xf0f1f2f3f4f5f6f7f8f9fafbfcfdfeff;
-        let mut bytes = plain;
-        assert!(rt; work_from(&DirectA, &keys, first, &mut bytes).is_ok());
+        let keys = schedule(&DirectA, Cipher::Aes, NIST_KEY)?;
+        let mut bytes = joined(rt.alloc(), PLAINTEXT)?;
+        let expected = joined(rt.alloc(), CIPHERTEXT)?;
+        work_from(&DirectA, &keys, FIRST, &mut bytes)?;
         assert!(rt; bytes == expected);
-        assert!(rt; work_from(&DirectA, &keys, first, &mut bytes).is_ok());
-        assert!(rt; bytes == plain);
+        work_from(&DirectA, &keys, FIRST, &mut bytes)?;
+        assert!(rt; bytes == joined(rt.alloc(), PLAINTEXT)?);
         Ok(())
     }
 
@@ -208,62 +193,64 @@ mod tests {
     #[test]
     fn key_schedules(rt: HostRuntime) {
         let mut work = [0u8; 176];
-        let key: [u8; 16] = 0x2b7e151628aed2a6abf7158809cf4f3cu128.to_be_bytes();
+        let key = NIST_KEY.to_be_bytes();
         assert!(rt; Schedule::new(&DirectA, Cipher::Aes, &key, &mut work).is_ok());
         assert!(rt; work[172..176] == [0xb6, 0x63, 0x0c, 0xa6]);
-        let key: [u8; 16] = 0x0123456789abcdeffedcba9876543210u128.to_be_bytes();
+        let key = 0x0123456789abcdeffedcba9876543210u128.to_be_bytes();
         assert!(rt; Schedule::new(&DirectS, Cipher::Sm4, &key, &mut work).is_ok());
         assert!(rt; work[0..4] == [0xf1, 0x21, 0x86, 0xf9]);
         assert!(rt; work[124..128] == [0x91, 0x24, 0xa0, 0x12]);
     }
 
     #[test]
-    fn aes_lengths(rt: HostRuntime) {
-        for (length, expected) in AES_DIGESTS {
-            assert!(rt;
-                sealed(&DirectA, Cipher::Aes, 0xc0de, 0xfedcba9876543210, length) == Ok(expected)
-            );
-        }
+    fn aes_lengths(rt: HostRuntime) -> Result<(), Fail> {
+        check_digests(&rt, rt.alloc(), &DirectA, Cipher::Aes, AES_DIGESTS)
     }
 
     #[test]
-    fn sm4_lengths(rt: HostRuntime) {
-        for (length, expected) in SM4_DIGESTS {
-            assert!(rt;
-                sealed(&DirectS, Cipher::Sm4, 0xc0de, 0xfedcba9876543210, length) == Ok(expected)
-            );
-        }
+    fn sm4_lengths(rt: HostRuntime) -> Result<(), Fail> {
+        check_digests(&rt, rt.alloc(), &DirectS, Cipher::Sm4, SM4_DIGESTS)
     }
 
     // Names and numbers with their highest bits set, and with no more than the lowest.
     #[test]
-    fn names_and_numbers(rt: HostRuntime) {
+    fn names_and_numbers(rt: HostRuntime) -> Result<(), Fail> {
         let top = 0x8000000000000000;
-        assert!(rt; sealed(&DirectA, Cipher::Aes, 0x8000, top, 255) == Ok(0x0ab423ae7b94c2fa));
-        assert!(rt; sealed(&DirectA, Cipher::Aes, 0xffff, u64::MAX, 255) == Ok(0x285d912bb323f390));
-        assert!(rt; sealed(&DirectA, Cipher::Aes, 0, 1, 255) == Ok(0x9d73846b4073dd78));
-        assert!(rt; sealed(&DirectS, Cipher::Sm4, 0x8000, top, 255) == Ok(0xa0718b6644d30411));
-        assert!(rt; sealed(&DirectS, Cipher::Sm4, 0xffff, u64::MAX, 255) == Ok(0x2b67e7ffb38fcbb5));
-        assert!(rt; sealed(&DirectS, Cipher::Sm4, 0, 1, 255) == Ok(0x97592b449699ce5c));
+        for (name, number, aes, sm4) in [
+            (0x8000, top, 0x0ab423ae7b94c2fa, 0xa0718b6644d30411),
+            (0xffff, u64::MAX, 0x285d912bb323f390, 0x2b67e7ffb38fcbb5),
+            (0, 1, 0x9d73846b4073dd78, 0x97592b449699ce5c),
+        ] {
+            let bytes = sector(rt.alloc(), 255)?;
+            assert_eq!(rt; sealed(&DirectA, Cipher::Aes, name, number, bytes), Ok(aes));
+            let bytes = sector(rt.alloc(), 255)?;
+            assert_eq!(rt; sealed(&DirectS, Cipher::Sm4, name, number, bytes), Ok(sm4));
+        }
+        Ok(())
     }
 
     #[test]
-    fn sector_lengths(rt: HostRuntime) {
-        assert!(rt; sealed(&DirectA, Cipher::Aes, 1, 1, 0) == Err(Refusal::SectorLength));
-        assert!(rt; sealed(&DirectA, Cipher::Aes, 1, 1, 4097) == Err(Refusal::SectorLength));
-        assert!(rt; sealed(&DirectS, Cipher::Sm4, 1, 1, 0) == Err(Refusal::SectorLength));
-        assert!(rt; sealed(&DirectS, Cipher::Sm4, 1, 1, 4097) == Err(Refusal::SectorLength));
+    fn sector_lengths(rt: HostRuntime) -> Result<(), Fail> {
+        for length in [0, 4097] {
+            let bytes = sector(rt.alloc(), length)?;
+            let answer = sealed(&DirectA, Cipher::Aes, 1, 1, bytes);
+            assert_eq!(rt; answer, Err(Refusal::SectorLength));
+            let bytes = sector(rt.alloc(), length)?;
+            let answer = sealed(&DirectS, Cipher::Sm4, 1, 1, bytes);
+            assert_eq!(rt; answer, Err(Refusal::SectorLength));
+        }
+        Ok(())
     }
 
     #[test]
     fn keys_and_work_areas(rt: HostRuntime) {
-        assert_eq!(rt; refused(Cipher::Aes, 15, 177), 7);
-        assert_eq!(rt; refused(Cipher::Sm4, 17, 177), 7);
-        assert_eq!(rt; refused(Cipher::Aes, 15, 0), 7);
-        assert_eq!(rt; refused(Cipher::Aes, 16, 0), 8);
-        assert_eq!(rt; refused(Cipher::Sm4, 16, 175), 8);
-        assert_eq!(rt; refused(Cipher::Aes, 16, 176), 0);
-        assert_eq!(rt; refused(Cipher::Sm4, 16, 177), 0);
+        assert_eq!(rt; refused(Cipher::Aes, &[1; 15], &mut [5; 177]), Some(7));
+        assert_eq!(rt; refused(Cipher::Sm4, &[1; 17], &mut [5; 177]), Some(7));
+        assert_eq!(rt; refused(Cipher::Aes, &[1; 15], &mut []), Some(7));
+        assert_eq!(rt; refused(Cipher::Aes, &[1; 16], &mut []), Some(8));
+        assert_eq!(rt; refused(Cipher::Sm4, &[1; 16], &mut [5; 175]), Some(8));
+        assert_eq!(rt; refused(Cipher::Aes, &[1; 16], &mut [5; 176]), None);
+        assert_eq!(rt; refused(Cipher::Sm4, &[1; 16], &mut [5; 177]), None);
     }
 
     // What the work area holds after an accepted key and after a refused one.
@@ -279,17 +266,12 @@ mod tests {
     // A sector that is worked twice is the first one.
     #[test]
     fn twice(rt: HostRuntime) -> Result<(), Fail> {
-        let mut work = [0u8; 176];
         let mut bytes = [65u8; 40];
-        match Schedule::new(&DirectS, Cipher::Sm4, &KEY, &mut work) {
-            Ok(keys) => {
-                assert!(rt; work_sector(&DirectS, &keys, 1, 9, &mut bytes).is_ok());
-                assert!(rt; bytes != [65u8; 40]);
-                assert!(rt; work_sector(&DirectS, &keys, 1, 9, &mut bytes).is_ok());
-                assert!(rt; bytes == [65u8; 40]);
-                Ok(())
-            }
-            Err(_) => Err(Fail::new("the key is refused")),
-        }
+        let keys = Schedule::new(&DirectS, Cipher::Sm4, &KEY, &mut [0; 176])?;
+        work_sector(&DirectS, &keys, 1, 9, &mut bytes)?;
+        assert!(rt; bytes != [65u8; 40]);
+        work_sector(&DirectS, &keys, 1, 9, &mut bytes)?;
+        assert!(rt; bytes == [65u8; 40]);
+        Ok(())
     }
 }
