@@ -4,7 +4,8 @@
 #[cfg(test)]
 mod tests {
     use boxes::Substitute;
-    use boxes::direct::{DirectA, DirectS};
+    use boxes::direct::Direct;
+    use boxes::sbox::{BoxA, BoxS};
     use ciphers::counter::{work_from, work_sector};
     use ciphers::keys::{Cipher, Schedule};
     use refusals::Refusal;
@@ -102,7 +103,7 @@ mod tests {
 
     // The refusal's number of a key and a work area, or none.
     fn refused(cipher: Cipher, key: &[u8], work: &mut [u8]) -> Option<u8> {
-        Schedule::new(&DirectA, cipher, key, work)
+        Schedule::new(&Direct(BoxA), cipher, key, work)
             .err()
             .map(|refusal| refusal.number())
     }
@@ -138,7 +139,7 @@ mod tests {
     fn aes_blocks(rt: HostRuntime) {
         assert_eq!(rt;
             block(
-                &DirectA,
+                &Direct(BoxA),
                 Cipher::Aes,
                 NIST_KEY,
                 0x3243f6a8885a308d313198a2e0370734,
@@ -147,7 +148,7 @@ mod tests {
         );
         assert_eq!(rt;
             block(
-                &DirectA,
+                &Direct(BoxA),
                 Cipher::Aes,
                 0x000102030405060708090a0b0c0d0e0f,
                 0x00112233445566778899aabbccddeeff,
@@ -160,7 +161,7 @@ mod tests {
     fn sm4_block(rt: HostRuntime) {
         let key = 0x0123456789abcdeffedcba9876543210;
         assert_eq!(rt;
-            block(&DirectS, Cipher::Sm4, key, key),
+            block(&Direct(BoxS), Cipher::Sm4, key, key),
             Ok(0x681edf34d206965e86b3e94f536e4246)
         );
     }
@@ -168,10 +169,10 @@ mod tests {
     // SP 800-38A, F.5.1.
     #[test]
     fn counter_mode(rt: HostRuntime) -> Result<(), Fail> {
-        let keys = schedule(&DirectA, Cipher::Aes, NIST_KEY)?;
+        let keys = schedule(&Direct(BoxA), Cipher::Aes, NIST_KEY)?;
         let mut bytes = joined(rt.alloc(), PLAINTEXT)?;
         let expected = joined(rt.alloc(), CIPHERTEXT)?;
-        work_from(&DirectA, &keys, FIRST, &mut bytes)?;
+        work_from(&Direct(BoxA), &keys, FIRST, &mut bytes)?;
         assert!(rt; bytes == expected);
         Ok(())
     }
@@ -179,12 +180,12 @@ mod tests {
     // The same, and back by F.5.2.
     #[test]
     fn counter_mode_and_back(rt: HostRuntime) -> Result<(), Fail> {
-        let keys = schedule(&DirectA, Cipher::Aes, NIST_KEY)?;
+        let keys = schedule(&Direct(BoxA), Cipher::Aes, NIST_KEY)?;
         let mut bytes = joined(rt.alloc(), PLAINTEXT)?;
         let expected = joined(rt.alloc(), CIPHERTEXT)?;
-        work_from(&DirectA, &keys, FIRST, &mut bytes)?;
+        work_from(&Direct(BoxA), &keys, FIRST, &mut bytes)?;
         assert!(rt; bytes == expected);
-        work_from(&DirectA, &keys, FIRST, &mut bytes)?;
+        work_from(&Direct(BoxA), &keys, FIRST, &mut bytes)?;
         assert!(rt; bytes == joined(rt.alloc(), PLAINTEXT)?);
         Ok(())
     }
@@ -194,22 +195,22 @@ mod tests {
     fn key_schedules(rt: HostRuntime) {
         let mut work = [0u8; 176];
         let key = NIST_KEY.to_be_bytes();
-        assert!(rt; Schedule::new(&DirectA, Cipher::Aes, &key, &mut work).is_ok());
+        assert!(rt; Schedule::new(&Direct(BoxA), Cipher::Aes, &key, &mut work).is_ok());
         assert!(rt; work[172..176] == [0xb6, 0x63, 0x0c, 0xa6]);
         let key = 0x0123456789abcdeffedcba9876543210u128.to_be_bytes();
-        assert!(rt; Schedule::new(&DirectS, Cipher::Sm4, &key, &mut work).is_ok());
+        assert!(rt; Schedule::new(&Direct(BoxS), Cipher::Sm4, &key, &mut work).is_ok());
         assert!(rt; work[0..4] == [0xf1, 0x21, 0x86, 0xf9]);
         assert!(rt; work[124..128] == [0x91, 0x24, 0xa0, 0x12]);
     }
 
     #[test]
     fn aes_lengths(rt: HostRuntime) -> Result<(), Fail> {
-        check_digests(&rt, rt.alloc(), &DirectA, Cipher::Aes, AES_DIGESTS)
+        check_digests(&rt, rt.alloc(), &Direct(BoxA), Cipher::Aes, AES_DIGESTS)
     }
 
     #[test]
     fn sm4_lengths(rt: HostRuntime) -> Result<(), Fail> {
-        check_digests(&rt, rt.alloc(), &DirectS, Cipher::Sm4, SM4_DIGESTS)
+        check_digests(&rt, rt.alloc(), &Direct(BoxS), Cipher::Sm4, SM4_DIGESTS)
     }
 
     // Names and numbers with their highest bits set, and with no more than the lowest.
@@ -222,9 +223,15 @@ mod tests {
             (0, 1, 0x9d73846b4073dd78, 0x97592b449699ce5c),
         ] {
             let bytes = sector(rt.alloc(), 255)?;
-            assert_eq!(rt; sealed(&DirectA, Cipher::Aes, name, number, bytes), Ok(aes));
+            assert_eq!(rt;
+                sealed(&Direct(BoxA), Cipher::Aes, name, number, bytes),
+                Ok(aes)
+            );
             let bytes = sector(rt.alloc(), 255)?;
-            assert_eq!(rt; sealed(&DirectS, Cipher::Sm4, name, number, bytes), Ok(sm4));
+            assert_eq!(rt;
+                sealed(&Direct(BoxS), Cipher::Sm4, name, number, bytes),
+                Ok(sm4)
+            );
         }
         Ok(())
     }
@@ -233,10 +240,10 @@ mod tests {
     fn sector_lengths(rt: HostRuntime) -> Result<(), Fail> {
         for length in [0, 4097] {
             let bytes = sector(rt.alloc(), length)?;
-            let answer = sealed(&DirectA, Cipher::Aes, 1, 1, bytes);
+            let answer = sealed(&Direct(BoxA), Cipher::Aes, 1, 1, bytes);
             assert_eq!(rt; answer, Err(Refusal::SectorLength));
             let bytes = sector(rt.alloc(), length)?;
-            let answer = sealed(&DirectS, Cipher::Sm4, 1, 1, bytes);
+            let answer = sealed(&Direct(BoxS), Cipher::Sm4, 1, 1, bytes);
             assert_eq!(rt; answer, Err(Refusal::SectorLength));
         }
         Ok(())
@@ -257,9 +264,9 @@ mod tests {
     #[test]
     fn work_area(rt: HostRuntime) {
         let mut work = [5u8; 177];
-        assert!(rt; Schedule::new(&DirectA, Cipher::Aes, &KEY[..15], &mut work).is_err());
+        assert!(rt; Schedule::new(&Direct(BoxA), Cipher::Aes, &KEY[..15], &mut work).is_err());
         assert!(rt; work == [5u8; 177]);
-        assert!(rt; Schedule::new(&DirectA, Cipher::Aes, &KEY, &mut work).is_ok());
+        assert!(rt; Schedule::new(&Direct(BoxA), Cipher::Aes, &KEY, &mut work).is_ok());
         assert!(rt; work[0] == 0 && work[15] == 15 && work[176] == 5);
     }
 
@@ -267,10 +274,10 @@ mod tests {
     #[test]
     fn twice(rt: HostRuntime) -> Result<(), Fail> {
         let mut bytes = [65u8; 40];
-        let keys = Schedule::new(&DirectS, Cipher::Sm4, &KEY, &mut [0; 176])?;
-        work_sector(&DirectS, &keys, 1, 9, &mut bytes)?;
+        let keys = Schedule::new(&Direct(BoxS), Cipher::Sm4, &KEY, &mut [0; 176])?;
+        work_sector(&Direct(BoxS), &keys, 1, 9, &mut bytes)?;
         assert!(rt; bytes != [65u8; 40]);
-        work_sector(&DirectS, &keys, 1, 9, &mut bytes)?;
+        work_sector(&Direct(BoxS), &keys, 1, 9, &mut bytes)?;
         assert!(rt; bytes == [65u8; 40]);
         Ok(())
     }
