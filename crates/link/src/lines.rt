@@ -21,13 +21,6 @@ impl fmt::Display for Name {
     }
 }
 
-fn other(side: Side) -> Side {
-    match side {
-        Side::First => Side::Second,
-        Side::Second => Side::First,
-    }
-}
-
 // Bytes by their digits.
 #[derive(Clone, Copy)]
 struct Digits<'a>(&'a [u8]);
@@ -118,7 +111,7 @@ impl Link<'_> {
         match self.ends.seal(side, ticket, bytes) {
             Ok(()) => {
                 println!(self.rt; "{end} seal {name} {number}: {}", Digits(bytes))?;
-                self.open(other(side), name, number, bytes)
+                self.open(side.other(), name, number, bytes)
             }
             Err(refusal) => println!(self.rt; "{end} seal {name} {number}: {}", Refused(refusal)),
         }

@@ -64,11 +64,8 @@ impl From<io::Error> for LineError {
 }
 
 fn letter(word: &str) -> Result<Cipher, Part> {
-    match word {
-        "A" => Ok(Cipher::Aes),
-        "S" => Ok(Cipher::Sm4),
-        _ => Err(Part::Letter),
-    }
+    let letter = word.parse::<char>().map_err(|_| Part::Letter)?;
+    Cipher::try_from(letter).map_err(|_| Part::Letter)
 }
 
 // The bytes in a word of two digits each.

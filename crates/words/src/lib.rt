@@ -29,7 +29,7 @@ pub fn hex_value(b: u8) -> Option<u8>
 }
 
 // The number that a word of so many hexadecimal digits stands for.
-pub fn hex_number<const DIGITS: usize>(part: &[u8]) -> Option<u128>
+fn hex_number<const DIGITS: usize>(part: &[u8]) -> Option<u128>
     requires { DIGITS ≤ 32 }
     ensures value { result ≡ hex_number DIGITS part.now }
     ensures short { IfSome result (λ n. n < 16 ^ DIGITS) }
