@@ -1,4 +1,3 @@
-pub mod Fill
 pub mod Made
 pub mod Doubling
 pub mod Schedule

@@ -77,7 +77,8 @@ fn work<B: Substitute, F: Fn(u16) -> [u8; 16]>(
     Ok(())
 }
 
-// Seals the bytes of a sector in place, or opens them: the same call does both.
+// Seals the bytes of a sector in place, or opens them: the same call does both. Name and number stand side by side, as in the calls of
+// an end and in the function for C.
 pub fn work_sector<B: Substitute>(
     boxes: &B,
     keys: &Schedule,

@@ -8,6 +8,7 @@ use crate::{aes, sm4};
 use boxes::Substitute;
 use refusals::Refusal;
 
+// A letter chooses the cipher while the program runs: so it is an enum that its users match, with no heap for a `dyn`.
 #[derive(Clone, Copy, PartialEq, Eq, Debug)]
 pub enum Cipher {
     Aes,

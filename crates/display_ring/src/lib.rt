@@ -9,6 +9,9 @@ use rings::pairing::Pairing;
 use rings::poly::Four;
 use towers::pair::Pair;
 
+// Two pairs, and below two functions with a fact each that the prover computes: a function over the octic would hold both all the
+// same, and answer for octics that it has no pair for.
+
 // The pair for the octic 11B.
 const PAIR_11B: Pair = Pair {
     constant: 14,

@@ -1,4 +1,5 @@
-// One sector opened as an end over the display's ring would, by fits that are known beforehand.
+// One sector opened as an end over the display's ring would, by fits that are known beforehand. The parameters stand side by side as
+// the function for C has them.
 ghost use Rattle.std.specs.Prelude.{◌≡◌, replicate};
 ghost use Rattle.display_ring.specs.Display.{display_mul};
 ghost use Rattle.towers.specs.Keeps.{Keeps};

@@ -34,7 +34,7 @@ fn rest_of(octic: u16, divisor: u16, degree: u16) -> u16
     rest
 }
 
-// The least divisor of degree 1 to 4.
+// The least divisor of degree 1 to 4. Labelled loops, left from inside, are the form that the product prescribes.
 fn first_divisor(octic: u16) -> Option<u16>
     requires { octic < 512 }
     ensures { First octic result }

@@ -1,5 +1,5 @@
 // The pairing over a ring: a code holds r1 in its high half and r0 in its low half, and means r1 Y + r0, where Y Y = Y + c.
-ghost use Rattle.std.specs.Prelude.{◌≡◌, ℕ, ◌+◌, ◌*◌, ◌/◌, ◌%◌, ◌^◌, ◌<◌, ◌≤◌};
+ghost use Rattle.std.specs.Prelude.{◌≡◌, MatchOption, ℕ, ◌+◌, ◌*◌, ◌/◌, ◌%◌, ◌^◌, ◌<◌, ◌≤◌};
 ghost use Rattle.rings.specs.Laws.{Inverts};
 ghost use Rattle.rings.specs.Pairing.{lows, schoolbook, form, by_norm, norm as norm_of, pairing_bits, pairing_mul, Normed};
 ghost use Rattle.rings.specs.PairCode.{pairing_laws};
@@ -34,56 +34,75 @@ impl<'a, R: Ring> Lent<'a, R> {
         Lent { below, constant }
     }
 
+    // The halves of the codes, or none over width 8.
+    fn halves(&self) -> Option<Halves<'a, R>>
+        ensures { MatchOption result (8 ≤ R.Ring.WIDTH) (λ h. (h.below.now ≡ self.now.below.now) × (h.constant ≡ self.now.constant)) }
+    {
+        if R::WIDTH >= 8 {
+            return None;
+        }
+        Some(Halves {
+            below: self.below,
+            constant: self.constant,
+        })
+    }
+
     // The norm, a code of the ring below, which has an inverse there just if `a` has one here. Over width 8 a code is its own norm.
     pub fn norm(&self, a: u8) -> u8
         ensures { Normed R.Ring.WIDTH 1 (R.Ring.mul self.now.below.now) self.now.constant (a % 2 ^ pairing_bits R.Ring.WIDTH) result }
     {
-        if R::WIDTH >= 8 {
-            return a;
+        match self.halves() {
+            Some(halves) => halves.norm(a),
+            None => a,
         }
-        self.pair_norm(a)
     }
 
     // The product. Over width 8 the pairing is the ring below.
     pub fn product(&self, a: u8, b: u8) -> u8
         ensures { result ≡ pairing_mul R.Ring.WIDTH (R.Ring.mul self.now.below.now) self.now.constant (a % 2 ^ pairing_bits R.Ring.WIDTH) (b % 2 ^ pairing_bits R.Ring.WIDTH) }
     {
-        if R::WIDTH >= 8 {
-            return self.below.product(a, b);
+        match self.halves() {
+            Some(halves) => halves.product(a, b),
+            None => self.below.product(a, b),
         }
-        self.multiply_halves(a, b)
     }
 
     // The code whose product with `a` is 1, or none where there is no such code.
     pub fn inverse(&self, a: u8) -> Option<u8>
         ensures { Inverts (pairing_bits R.Ring.WIDTH) 1 (pairing_mul R.Ring.WIDTH (R.Ring.mul self.now.below.now) self.now.constant) (a % 2 ^ pairing_bits R.Ring.WIDTH) result }
     {
-        if R::WIDTH >= 8 {
-            return self.below.inverse(a);
+        match self.halves() {
+            Some(halves) => halves.inverse(a),
+            None => self.below.inverse(a),
         }
-        self.pair_inverse(a)
     }
+}
 
-    // The norm and the inverse where the ring below has width 2 or 4.
-    fn pair_norm(&self, a: u8) -> u8
-        requires { R.Ring.WIDTH < 8 }
+// The same where the ring below has width 2 or 4, so that a code has halves. The ring below reads only the low bits.
+#[derive(Drop)]
+struct Halves<'a, R: Ring> {
+    below: &'a R,
+    constant: u8,
+    ghost narrow: { R.Ring.WIDTH < 8 },
+}
+
+impl<R: Ring> Halves<'_, R> {
+    fn norm(&self, a: u8) -> u8
         ensures halves { result ≡ norm_of R.Ring.WIDTH (R.Ring.mul self.now.below.now) self.now.constant (a % 2 ^ (R.Ring.WIDTH + R.Ring.WIDTH)) }
         ensures normed { Normed R.Ring.WIDTH 1 (R.Ring.mul self.now.below.now) self.now.constant (a % 2 ^ pairing_bits R.Ring.WIDTH) result }
     {
         self.norm_form(a)
     }
 
-    fn pair_inverse(&self, a: u8) -> Option<u8>
-        requires { R.Ring.WIDTH < 8 }
+    fn inverse(&self, a: u8) -> Option<u8>
         ensures { Inverts (pairing_bits R.Ring.WIDTH) 1 (pairing_mul R.Ring.WIDTH (R.Ring.mul self.now.below.now) self.now.constant) (a % 2 ^ pairing_bits R.Ring.WIDTH) result }
     {
-        let m = self.below.inverse(self.pair_norm(a))?;
-        Some(self.divide_halves(a, m))
+        let m = self.below.inverse(self.norm(a))?;
+        Some(self.divide(a, m))
     }
 
-    // The quadratic form of the halves that is the norm. The ring below reads only the low bits.
+    // The quadratic form of the halves that is the norm.
     fn norm_form(&self, a: u8) -> u8
-        requires { R.Ring.WIDTH < 8 }
         ensures { result ≡ form (lows R.Ring.WIDTH (R.Ring.mul self.now.below.now)) self.now.constant (a / 2 ^ R.Ring.WIDTH) a }
     {
         let a1 = a >> R::WIDTH;
@@ -94,9 +113,7 @@ impl<'a, R: Ring> Lent<'a, R> {
         low_square ^ cross ^ carry
     }
 
-    // The product by the halves.
-    fn multiply_halves(&self, a: u8, b: u8) -> u8
-        requires { R.Ring.WIDTH < 8 }
+    fn product(&self, a: u8, b: u8) -> u8
         ensures { result ≡ schoolbook R.Ring.WIDTH (lows R.Ring.WIDTH (R.Ring.mul self.now.below.now)) self.now.constant (a / 2 ^ R.Ring.WIDTH) a (b / 2 ^ R.Ring.WIDTH) b }
     {
         let w = R::WIDTH;
@@ -111,8 +128,7 @@ impl<'a, R: Ring> Lent<'a, R> {
     }
 
     // The halves of the inverse, where m is the norm's inverse: r1 m, and (r0 + r1) m.
-    fn divide_halves(&self, a: u8, m: u8) -> u8
-        requires { R.Ring.WIDTH < 8 }
+    fn divide(&self, a: u8, m: u8) -> u8
         ensures { result ≡ by_norm R.Ring.WIDTH (lows R.Ring.WIDTH (R.Ring.mul self.now.below.now)) (a / 2 ^ R.Ring.WIDTH) a m }
     {
         let w = R::WIDTH;

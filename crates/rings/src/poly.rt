@@ -8,7 +8,7 @@ ghost use Rattle.rings.specs.QuarticDegrees.{of_degree};
 
 use crate::Ring;
 
-// A modulus of degree W.
+// A modulus of degree W. The rings below are no instances of it: an impl for every W would owe the law that W is 2, 4 or 8.
 #[derive(Clone, Copy)]
 struct Modulus<const W: u32> {
     bits: u16,

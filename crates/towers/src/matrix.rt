@@ -47,7 +47,7 @@ pub(crate) fn reverse(columns: &[u8; 8]) -> [u8; 8]
     [1, 2, 4, 8, 16, 32, 64, 128].map(|code| preimage(columns, 256, code))
 }
 
-// The entries 1.
+// The entries 1. A loop over the columns that counts set bits is the form that the product prescribes.
 pub(crate) fn count(columns: &[u8]) -> u8
     requires { length columns.now ≤ 8 }
     ensures value { result ≡ entries columns.now }

@@ -39,7 +39,8 @@ fn powers<R: Ring>(ring: &R, g: u8) -> [u8; 4]
     [1, g, square, ring.product(g, square)]
 }
 
-// A root of z⁴ + z + 1, which every field of sixteen codes has.
+// A root of z⁴ + z + 1, which every field of sixteen codes has. That the ring is such a field stays a `requires`, here and below: a
+// ghost field takes only facts with one proof, and this one holds the inverses themselves.
 fn root<R: Ring>(ring: &R) -> u8
     requires { Sixteen R.Ring.WIDTH (R.Ring.mul ring.now) }
     ensures code { result < 16 }

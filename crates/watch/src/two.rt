@@ -11,7 +11,7 @@ use ends::ticket::Ticket;
 use refusals::Refusal;
 use rings::Ring;
 
-// Two ends, each over a ring of its own.
+// Two ends, each over a ring of its own: they are of different types, so no one closure takes either, and each call has its match.
 #[derive(Drop)]
 pub struct Watch<X, Y> {
     one: End<X>,

@@ -2,8 +2,8 @@ use Rattle.std.proofs.Common.{◌<◌, ◌≤◌, sym, ◌∙◌, inr, lt_of_lt_
 use Rattle.rings.specs.PairCode.{norm_same, normed}
 use Rattle.rings.proofs.pairing.Lent.norm.Goals as goal
 
-pub returns-then-WIDTH-ge8 : goal.returns-then-WIDTH-ge8
-returns-then-WIDTH-ge8 g c =
+pub returns-in-None : goal.returns-in-None
+returns-in-None g c =
     let w = g.R.Ring.WIDTH in
     let mul = g.R.Ring.mul c.args.self.now.below.now in
     let k = c.args.self.now.constant in

@@ -1,7 +1,7 @@
 use Rattle.std.proofs.Common.{◌≡◌, ◌+◌, ◌%◌, ◌^◌, ◌∙◌, inl}
 use Rattle.rings.specs.Pairing.{norm}
 use Rattle.rings.specs.PairCode.{norm_low, norm_halved, normed}
-use Rattle.rings.proofs.pairing.Lent.pair_norm.Goals as goal
+use Rattle.rings.proofs.pairing.Halves.norm.Goals as goal
 
 pub returns : goal.returns
 returns g c =
@@ -13,6 +13,6 @@ returns g c =
     record {
       halves = e;
       normed =
-          normed w mul c.args.self.now.constant narrow c.args.a 1 _ (g.met.R.Ring.laws c.args.self.now.below.now) (inl c.requires)
-          (e ∙ norm_halved w mul c.args.self.now.constant narrow c.args.a c.requires);
+          normed w mul c.args.self.now.constant narrow c.args.a 1 _ (g.met.R.Ring.laws c.args.self.now.below.now) (inl c.args.self.now.narrow)
+          (e ∙ norm_halved w mul c.args.self.now.constant narrow c.args.a c.args.self.now.narrow);
     }
