@@ -23,34 +23,46 @@ fn stored_power(n: usize) -> u8
     POWERS[n]
 }
 
-fn stored_log(a: u8) -> usize
-    requires { a < 16 }
-    ensures { (result ≡ slice_index logs a) × (result < 15) }
-{
-    LOGS[a as usize] as usize
+// A code of width 4.
+#[derive(Clone, Copy)]
+struct Nibble {
+    bits: u8,
+    ghost below: { bits < 16 },
 }
 
-// The product of two codes below 16.
-fn by_powers(a: u8, b: u8) -> u8
-    requires left { a < 16 }
-    requires right { b < 16 }
-    ensures { result ≡ mul_mod 4 0x13 a b }
-{
-    if a == 0 || b == 0 {
-        return 0;
+impl Nibble {
+    // The low four bits of a code.
+    fn of(a: u8) -> Nibble
+        ensures { result.bits ≡ a % 16 }
+    {
+        Nibble { bits: a % 16 }
     }
-    stored_power((stored_log(a) + stored_log(b)) % 15)
-}
 
-// The inverse of a code below 16: the power that makes fifteen with its own.
-fn inverse_by_powers(a: u8) -> Option<u8>
-    requires { a < 16 }
-    ensures { Inverts 4 1 (mul_mod 4 0x13) a result }
-{
-    if a == 0 {
-        return None;
+    fn stored_log(&self) -> usize
+        ensures { (result ≡ slice_index logs self.now.bits) × (result < 15) }
+    {
+        LOGS[self.bits as usize] as usize
     }
-    Some(stored_power((15 - stored_log(a)) % 15))
+
+    fn product(&self, other: &Nibble) -> u8
+        ensures { result ≡ mul_mod 4 0x13 self.now.bits other.now.bits }
+    {
+        let (a, b) = (self.bits, other.bits);
+        if a == 0 || b == 0 {
+            return 0;
+        }
+        stored_power((self.stored_log() + other.stored_log()) % 15)
+    }
+
+    // The power that makes fifteen with the code's own.
+    fn inverse(&self) -> Option<u8>
+        ensures { Inverts 4 1 (mul_mod 4 0x13) self.now.bits result }
+    {
+        if self.bits == 0 {
+            return None;
+        }
+        Some(stored_power((15 - self.stored_log()) % 15))
+    }
 }
 
 impl Ring for Powers13 {
@@ -65,10 +77,10 @@ impl Ring for Powers13 {
     ghost laws = { λ r. mul_mod_laws 4 0x13 refl (lit< tt) };
 
     fn product(&self, a: u8, b: u8) -> u8 {
-        by_powers(a % 16, b % 16)
+        Nibble::of(a).product(&Nibble::of(b))
     }
 
     fn inverse(&self, a: u8) -> Option<u8> {
-        inverse_by_powers(a % 16)
+        Nibble::of(a).inverse()
     }
 }
