@@ -3,7 +3,7 @@ use Rattle.std.proofs.Common.{◌≡◌, ℕ, zero, suc, ◌+◌, ◌-◌, ◌*�
 use Rattle.std.specs.List.{range_with_len}
 use Rattle.std.proofs.lemmas.List.{append_assoc, take_all, take_more, drop-drop, take_at, drop_at, get_or-drop, length-take-le, at_drop_more, at_drop_all}
 use Rattle.std.proofs.lemmas.List.FromFn.{fill_by_all}
-use Rattle.ciphers.specs.Sm4.{word, word_at, four_bytes, bytes_of, tau, moved, linear, linear_key, ck, round_keys, schedule_s, rounds_s, key_words}
+use Rattle.ciphers.specs.Sm4.{word, word_at, four_bytes, bytes_of, moved, linear, linear_key, ck, round_keys, schedule_s, rounds_s, key_words}
 
 -- ---- words as bytes
 
@@ -116,15 +116,3 @@ module _ (box : ℕ → ℕ) where
   pub round_all : (rk : List ℕ) (i : ℕ) (x : List ℕ) → length rk ≤ i → rounds_s box (drop i rk) x ≡ x
   unfolding rounds_s
   round_all rk i x h = at_drop_all (λ ks. rounds_s box ks x) rk i h
-
-  -- four substituted bytes of a word
-  pub tau_of : (w : ℕ) (bs : List ℕ) (a b c d : ℕ) → bs ≡ four_bytes w → a ≡ box (get_or bs 0 0) → b ≡ box (get_or bs 1 0) → c ≡ box (get_or bs 2 0) → d ≡ box (get_or bs 3 0)
-      → word a b c d ≡ tau box w
-  unfolding tau
-  tau_of w bs a b c d e p q r s =
-      let at : ℕ → List ℕ → ℕ = λ k l. box (get_or l k 0) in
-      let A = p ∙ ap (at 0) e in
-      let B = q ∙ ap (at 1) e in
-      let C = r ∙ ap (at 2) e in
-      let D = s ∙ ap (at 3) e in
-      λ i. word (A i) (B i) (C i) (D i)

@@ -1,10 +1,8 @@
 -- Steps of the loops over columns. Assumes nothing.
-use Rattle.std.proofs.Common.{◌≡◌, ℕ, zero, suc, ◌+◌, ◌*◌, ◌/◌, ◌%◌, ◌<◌, ◌≤◌, Bool, true, false, T, ltb, List, ◌∷◌, length, get_or, drop, sym, refl, ap, ◌∙◌, subst, subst₂, inl, inr, mul-zero, mul-one, arith, ltb→lt, lt→ltb}
+use Rattle.std.proofs.Common.{◌≡◌, ℕ, zero, suc, ◌+◌, ◌*◌, ◌/◌, ◌%◌, ◌<◌, ◌≤◌, List, ◌∷◌, length, get_or, drop, sym, refl, ap, ◌∙◌, mul-zero, mul-one, arith}
 use lib.Bits.{bit_xor, xor_assoc, xor_zero_r}
 use Rattle.std.proofs.lemmas.List.{at_drop_more, at_drop_all}
 use Rattle.towers.specs.Matrices.{apply}
-use Rattle.towers.specs.Order.{Lex}
-use Rattle.towers.specs.Tests.{Whether}
 
 apply_cons : (c : ℕ) (cs : List ℕ) (v : ℕ) → apply (c ∷ cs) v ≡ bit_xor (c * (v % 2)) (apply cs (v / 2))
 unfolding apply
@@ -45,26 +43,3 @@ at_eight P a b c d e f g k (suc zero) h = b
 at_eight P a b c d e f g k (suc (suc zero)) h = c
 at_eight P a b c d e f g k (suc (suc (suc zero))) h = d
 at_eight P a b c d e f g k (suc (suc (suc (suc i)))) h = at_four (λ j. P (suc (suc (suc (suc j))))) e f g k i (omega arith)
-
--- the columns from the place i on
-pub lex_more : (xs ys : List ℕ) (i : ℕ) → i < length xs → i < length ys → get_or xs i 0 ≡ get_or ys i 0
-    → (Lex (drop (i + 1) xs) (drop (i + 1) ys) → Lex (drop i xs) (drop i ys)) × (Lex (drop i xs) (drop i ys) → Lex (drop (i + 1) xs) (drop (i + 1) ys))
-lex_more xs ys i h k e =
-    let P : List ℕ → List ℕ → Type 0 = λ us vs. (Lex (drop (i + 1) xs) (drop (i + 1) ys) → Lex us vs) × (Lex us vs → Lex (drop (i + 1) xs) (drop (i + 1) ys)) in
-    subst₂ P (sym (at_drop_more (λ us. us) xs i 0 h)) (sym (at_drop_more (λ us. us) ys i 0 k))
-    ((λ l. inr (e, l)), (λ l. elim l [ inl less ↦ absurd (omega arith) | inr p ↦ p.1 ]))
-
-pub lex_here : (xs ys : List ℕ) (i : ℕ) → i < length xs → i < length ys → (get_or xs i 0 ≡ get_or ys i 0 → ⊥)
-    → (get_or xs i 0 < get_or ys i 0 → Lex (drop i xs) (drop i ys)) × (Lex (drop i xs) (drop i ys) → get_or xs i 0 < get_or ys i 0)
-lex_here xs ys i h k n =
-    let P : List ℕ → List ℕ → Type 0 = λ us vs. (get_or xs i 0 < get_or ys i 0 → Lex us vs) × (Lex us vs → get_or xs i 0 < get_or ys i 0) in
-    subst₂ P (sym (at_drop_more (λ us. us) xs i 0 h)) (sym (at_drop_more (λ us. us) ys i 0 k))
-    ((λ less. inl less), (λ l. elim l [ inl less ↦ less | inr p ↦ absurd (n p.0) ]))
-
--- a test of numbers says whether the columns compare
-pub decided : (P : Type 0) (a b : ℕ) → (a < b → P) → (P → a < b) → Whether P (ltb a b)
-decided P a b f g = go (ltb a b) refl
-  where
-    go : (t : Bool) → ltb a b ≡ t → Whether P t
-    go true e = f (ltb→lt a b (subst T (sym e) tt))
-    go false e = λ p. subst T e (lt→ltb a b (g p))
