@@ -1,36 +1,14 @@
 -- The bytes under the pads, block by block, and once more under the same pads. Assumes nothing.
-use Rattle.std.proofs.Common.{◌≡◌, ℕ, ◌+◌, ◌-◌, ◌*◌, ◌/◌, ◌%◌, ◌<◌, ◌≤◌, min, List, length, get_or, set, sym, refl, ap, ◌∙◌, inl, inr, arith, below_more}
+use Rattle.std.proofs.Common.{◌≡◌, ℕ, ◌+◌, ◌-◌, ◌*◌, ◌/◌, ◌%◌, ◌<◌, ◌≤◌, min, List, length, get_or, drop, set, sym, refl, ap, ◌∙◌, subst, inl, inr, arith, below_more}
 use Rattle.std.proofs.lemmas.Bool.{cases_lt}
 use lib.Bits.{bit_xor, xor_assoc, xor_self, xor_zero_r}
 use Rattle.std.proofs.lemmas.List.FromFn.{fill_by_all, length-map-range_with_len, get_or-map-range_with_len}
-use Rattle.std.proofs.lemmas.List.{get_or-set_same, get_or-set_other, length-set}
+use Rattle.std.proofs.lemmas.List.{get_or-take, get_or-drop, get_or-set_same, get_or-set_other, length-set}
+use Rattle.std.proofs.lemmas.Slice.{between-put_mid, drop-put_mid}
+use borrow.Rule.Slice.PartMut.{mid_of, put_mid, mid_len, same_len_mid, take_put}
 use Rattle.ciphers.specs.Counter.{pad_byte, padded, Covers, InRange, Pads, sealed, sector_pads}
 
--- ---- one pad
-
-pub covers_none : (pad : List ℕ) (start : ℕ) (s : List ℕ) → Covers pad start 0 s s
-covers_none pad start s = record { long = refl; before = λ k h. refl; inside = λ k h l. absurd (omega arith); after = λ k h. refl }
-
-pub covers_more : (pad : List ℕ) (start n v : ℕ) (old s : List ℕ) → start + n < length s → v ≡ bit_xor (get_or s (start + n) 0) (get_or pad n 0)
-    → Covers pad start n old s → Covers pad start (n + 1) old (set s (start + n) v)
-covers_more pad start n v old s h e so =
-    let j = start + n in
-    let other : (k : ℕ) → (k ≡ j → ⊥) → get_or (set s j v) k 0 ≡ get_or s k 0 = λ k ne. get_or-set_other s j k v 0 ne in
-    record {
-      long = length-set s j v ∙ so.long;
-      before = λ k l. other k (omega arith) ∙ so.before k l;
-      inside =
-          below_more _ _ (λ k l m. other (start + k) (omega arith) ∙ so.inside k l m)
-          (λ m. get_or-set_same s j v 0 h ∙ e ∙ ap (λ (x : ℕ). bit_xor x (get_or pad n 0)) (so.after j (omega arith)));
-      after = λ k l. other k (omega arith) ∙ so.after k (omega arith);
-    }
-
--- a pad over as many bytes as are left is a pad over a whole block
-pub covers_all : (pad : List ℕ) (start n : ℕ) (old s : List ℕ) → min 16 (length old - start) ≤ n → n ≤ 16 → Covers pad start n old s → Covers pad start 16 old s
-covers_all pad start n old s h l so =
-    record { long = so.long; before = so.before; inside = λ k a b. so.inside k (omega arith) b; after = λ k a. so.after k (omega arith) }
-
--- ---- the pads one after the other
+-- ---- the bytes one after the other
 
 -- byte k of s is padded below j, and as it was from j on
 pub record Sofar (f : ℕ → ℕ) (s : List ℕ) (j : ℕ) (old : List ℕ) : Type 0 where
@@ -40,6 +18,57 @@ pub record Sofar (f : ℕ → ℕ) (s : List ℕ) (j : ℕ) (old : List ℕ) : T
 
 pub start : (f : ℕ → ℕ) (s : List ℕ) → Sofar f s 0 s
 start f s = record { long = refl; below = λ k h. absurd (omega arith); above = λ k h. refl }
+
+pub one_more : (f : ℕ → ℕ) (s : List ℕ) (j : ℕ) (old : List ℕ) → j < length s → Sofar f s j old → Sofar f (set s j (bit_xor (get_or s j 0) (f j))) (j + 1) old
+one_more f s j old h so =
+    let v = bit_xor (get_or s j 0) (f j) in
+    let other : (k : ℕ) → (k ≡ j → ⊥) → get_or (set s j v) k 0 ≡ get_or s k 0 = λ k ne. get_or-set_other s j k v 0 ne in
+    record {
+      long = length-set s j v ∙ so.long;
+      below =
+          below_more _ _ (λ k l m. other k (omega arith) ∙ so.below k l m)
+          (λ m. get_or-set_same s j v 0 h ∙ ap (λ (x : ℕ). bit_xor x (f j)) (so.above j (omega arith)));
+      above = λ k l. other k (omega arith) ∙ so.above k (omega arith);
+    }
+
+-- all the bytes of a block are padded
+pub covers_all : (pad s : List ℕ) (n : ℕ) (old : List ℕ) → length old ≤ n → n ≤ 16 → Sofar (λ k. get_or pad k 0) s n old → Covers pad 0 16 old s
+covers_all pad s n old h l so = record {
+  long = so.long;
+  before = λ k b. absurd (omega arith);
+  inside =
+      λ k a b.
+      let z : 0 + k ≡ k = omega arith in
+      subst (λ (j : ℕ). get_or s j 0 ≡ bit_xor (get_or old j 0) (get_or pad k 0)) (sym z) (so.below k (omega arith) (omega arith));
+  after = λ k a. so.above k (omega arith);
+}
+
+-- ---- the pads one after the other
+
+-- a pad over the part from a to e, which are the 16 bytes there or those left
+pub covers_part : (pad : List ℕ) (a e : ℕ) (s ys : List ℕ) → a ≤ length s → e ≡ min (length s) (a + 16) → Covers pad 0 16 (mid_of a (e - a) s) ys
+    → Covers pad a 16 s (put_mid a (e - a) s ys)
+covers_part pad a e s ys l m c =
+    let n = e - a in
+    let t = put_mid a n s ys in
+    let part : length (mid_of a n s) ≡ n = mid_len a e s (omega arith) in
+    let long : length ys ≡ n = c.long ∙ part in
+    record {
+      long = same_len_mid a n s ys c.long;
+      before = λ k h. sym (get_or-take a t k 0 h) ∙ ap (λ (x : List ℕ). get_or x k 0) (take_put a n s ys l) ∙ get_or-take a s k 0 h;
+      inside = λ k h b.
+          let z : 0 + k ≡ k = omega arith in
+          let at : (x : List ℕ) → get_or (mid_of a n x) k 0 ≡ get_or x (a + k) 0 = λ x. get_or-take n (drop a x) k 0 (omega arith) ∙ get_or-drop a x k 0 in
+          let here : get_or ys k 0 ≡ bit_xor (get_or (mid_of a n s) k 0) (get_or pad k 0) =
+          subst (λ (j : ℕ). get_or ys j 0 ≡ bit_xor (get_or (mid_of a n s) j 0) (get_or pad k 0)) z (c.inside k h (omega arith)) in
+          sym (at t) ∙ ap (λ (x : List ℕ). get_or x k 0) (between-put_mid a n s ys e l long) ∙ here ∙ ap (λ (x : ℕ). bit_xor x (get_or pad k 0)) (at s);
+      after = λ k h.
+          let j = k - e in
+          let p : e + j ≡ k = omega arith in
+          ap (λ (x : ℕ). get_or t x 0) (sym p) ∙ sym (get_or-drop e t j 0)
+          ∙ ap (λ (x : List ℕ). get_or x j 0) (drop-put_mid a n s ys e (omega arith) l long)
+          ∙ get_or-drop e s j 0 ∙ ap (λ (x : ℕ). get_or s x 0) p;
+    }
 
 pub more : (pads : ℕ → List ℕ) (pad s t : List ℕ) (i : ℕ) (old : List ℕ) → pad ≡ pads i → Covers pad (16 * i) 16 s t
     → Sofar (pad_byte pads) s (16 * i) old → Sofar (pad_byte pads) t (16 * (i + 1)) old

@@ -1,5 +1,5 @@
 // The counter mode, in the caller's bytes.
-ghost use Rattle.std.specs.Prelude.{◌≡◌, ℕ, ◌<◌, List, length};
+ghost use Rattle.std.specs.Prelude.{◌≡◌, ℕ, ◌<◌, ◌≤◌, List, length};
 ghost use Rattle.ciphers.specs.Counter.{laid_out, counter_block, counted_block, Tells, Gives, Covers, InRange, Pads, sector_pads, counted_pads, Worked};
 ghost use Rattle.ciphers.specs.Keys.{cipher_of};
 
@@ -32,14 +32,14 @@ fn counted(first: u128, index: u16) -> [u8; 16]
     first.wrapping_add(index as u128).to_be_bytes()
 }
 
-// Puts a pad over the bytes from `start` on, as far as they go.
-fn cover(pad: [u8; 16], start: usize, bytes: &mut [u8])
-    requires { start < length bytes.old }
-    ensures { Covers pad start 16 bytes.old bytes.new }
+// Puts a pad over the bytes, as far as they go.
+fn cover(pad: [u8; 16], bytes: &mut [u8])
+    requires { length bytes.old ≤ 16 }
+    ensures { Covers pad 0 16 bytes.old bytes.new }
 {
-    let count = (bytes.len() - start).min(16);
-    for (k, p) in pad[..count].iter().enumerate() {
-        bytes[start + k] ^= *p;
+    // After a `zip` of the bytes with the pad a proof does not know what was written.
+    for (k, b) in bytes.iter_mut().enumerate() {
+        *b ^= pad[k];
     }
 }
 
@@ -54,10 +54,11 @@ fn pad_bytes<B: Substitute, F: Fn(u16) -> [u8; 16]>(
     requires callable { F.IsAlwaysCallable block }
     ensures { (blocks : ℕ → List ℕ) → Gives (F.post block) blocks → Pads (λ i. cipher_of (B.boxed boxes.now) keys.now (blocks i)) bytes.old bytes.new }
 {
-    // After `chunks_mut` a proof knows how many bytes there are and not which, so this goes by index.
+    // After `chunks_mut`, or a loop that splits what is left, a proof does not know what was written, so each part is taken by its bounds.
     for i in 0..bytes.len().div_ceil(16) {
         let pad = keys.encrypt(boxes, block(i as u16));
-        cover(pad, 16 * i, bytes);
+        let end = bytes.len().min(16 * i + 16);
+        cover(pad, &mut bytes[16 * i..end]);
     }
 }
 
