@@ -7,7 +7,7 @@ use crate::sbox::Sbox;
 use rings::Ring;
 use rings::poly::Octic;
 
-// The inverse of a byte in the ring of a box's octic, and 0 where there is none.
+// The inverse of a byte in the ring of a box's octic, and by the boxes' rule 0 where there is none.
 fn inverse<B: Sbox>(x: u8) -> u8
     ensures { result ≡ inverse_mod B.OCTIC x }
 {

@@ -1,21 +1,10 @@
 // The display's function for programs in C.
 #![tactic(auto)]
 
-ghost use Rattle.std.specs.Prelude.{◌≡◌};
-ghost use Rattle.display.specs.Answers.{code_of, Displayed};
+ghost use Rattle.display.specs.Answers.{Displayed};
 
 use ends::display::open_at_display;
-use refusals::Refusal;
-
-// 0, or the refusal's number.
-fn code_of(answer: Result<(), Refusal>) -> u32
-    ensures { result ≡ code_of answer }
-{
-    match answer {
-        Ok(()) => 0,
-        Err(refusal) => refusal.number() as u32,
-    }
-}
+use refusals::answer_number;
 
 // Opens a sector as the display's end would, and answers 0, 5, 7 or 11. The letter is the code of A or S; a slice is a pointer,
 // never null, and a length; key and bytes do not overlap.
@@ -29,5 +18,5 @@ pub extern "C" fn link_display_open(
 ) -> u32
     ensures { Displayed letter key.now name number bytes.old result bytes.new }
 {
-    code_of(open_at_display(letter, key, name, number, bytes))
+    u32::from(answer_number(open_at_display(letter, key, name, number, bytes)))
 }

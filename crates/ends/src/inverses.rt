@@ -3,7 +3,7 @@ ghost use Rattle.std.specs.Prelude.{◌≡◌};
 ghost use Rattle.boxes.specs.Boxes.{inverse_mod};
 ghost use Rattle.ends.specs.Table.{inverses_mod};
 
-// Entry x is the inverse of x, and 0 where there is none.
+// Entry x is the inverse of x, and by the boxes' rule 0 where there is none.
 #[derive(Clone, Copy)]
 pub struct Inverses {
     pub(super) octic: u16,

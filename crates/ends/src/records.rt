@@ -11,7 +11,7 @@ pub struct Answer {
 }
 
 // What tell fills in: the constant, the ones, and the columns, those of the map M before those of its reverse.
-#[derive(Clone, Copy, Debug)]
+#[derive(Clone, Copy, Default, Debug)]
 pub struct Told {
     pub c: u8,
     pub ones: u8,

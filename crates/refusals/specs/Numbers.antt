@@ -1,5 +1,5 @@
 -- The number of each refusal. Assumes nothing.
-use Rattle.std.specs.Prelude.{ℕ}
+use Rattle.std.specs.Prelude.{ℕ, Ok, Err, Result}
 use Rattle.refusals.specs.declared.Refusal.{Refusal}
 use Rattle.refusals.specs.declared.Refusal.TheVariants.{NotField, NotOctic, Divisible, NoFit, UnknownLetter, OtherOctic, KeyLength, SmallWork, NoKey, OtherName, SectorLength, NumbersUsedUp}
 
@@ -28,3 +28,8 @@ number_of OtherName = 10
 number_of SectorLength = 11
 -- draw: the next number is the largest of 64 bits
 number_of NumbersUsedUp = 12
+
+-- 0 where nothing was refused, and else the refusal's number
+abbrev pub answer_of : Result (Unit {0}) Refusal → ℕ
+answer_of (Ok u) = 0
+answer_of (Err e) = number_of e

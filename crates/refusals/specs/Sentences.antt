@@ -1,5 +1,6 @@
 -- What a report says of each refusal, byte for byte. Assumes nothing.
-use Rattle.std.specs.Prelude.{ℕ, List, codes}
+use Rattle.std.specs.Prelude.{ℕ, List, ◌++◌, codes, decimal}
+use Rattle.refusals.specs.Numbers.{number_of}
 use Rattle.refusals.specs.declared.Refusal.{Refusal}
 use Rattle.refusals.specs.declared.Refusal.TheVariants.{NotField, NotOctic, Divisible, NoFit, UnknownLetter, OtherOctic, KeyLength, SmallWork, NoKey, OtherName, SectorLength, NumbersUsedUp}
 
@@ -16,3 +17,7 @@ sentence_of NoKey = codes "the end has no key"
 sentence_of OtherName = codes "the ticket bears another name"
 sentence_of SectorLength = codes "the sector has 0 bytes or more than 4096"
 sentence_of NumbersUsedUp = codes "the next number is the largest of 64 bits"
+
+-- a refusal with its number
+abbrev pub numbered_of : Refusal → List ℕ
+numbered_of e = codes "refused with " ++ (decimal (number_of e) ++ (codes ", " ++ sentence_of e))

@@ -2,8 +2,8 @@
 #![tactic(auto)]
 
 ghost use Rattle.std.specs.Prelude.{◌≡◌, Some};
-ghost use Rattle.refusals.specs.Numbers.{number_of};
-ghost use Rattle.refusals.specs.Sentences.{sentence_of};
+ghost use Rattle.refusals.specs.Numbers.{number_of, answer_of};
+ghost use Rattle.refusals.specs.Sentences.{sentence_of, numbered_of};
 
 use std::fmt;
 
@@ -32,6 +32,13 @@ impl Refusal {
     }
 }
 
+// 0 where a call was accepted, and else the refusal's number.
+pub fn answer_number(answer: Result<(), Refusal>) -> u8
+    ensures { result ≡ answer_of answer }
+{
+    answer.err().map_or(0, |refusal| refusal.number())
+}
+
 // A sentence for the reader of a report.
 fn sentence(refusal: Refusal) -> &'static str
     ensures { result.now ≡ sentence_of refusal }
@@ -57,5 +64,19 @@ impl fmt::Display for Refusal {
 
     fn fmt<W: fmt::Write>(&self, f: &mut fmt::Formatter<W>) -> fmt::Result {
         f.write_str(sentence(*self))
+    }
+}
+
+// A refusal with its number, as a report has it.
+#[derive(Clone, Copy)]
+pub struct Numbered(pub Refusal);
+
+impl fmt::Display for Numbered {
+    ghost output = { λ n. Some (numbered_of n.0) };
+
+    fn fmt<W: fmt::Write>(&self, f: &mut fmt::Formatter<W>) -> fmt::Result {
+        let refusal = self.0;
+        let number = refusal.number();
+        write!(f, "refused with {number}, {refusal}")
     }
 }

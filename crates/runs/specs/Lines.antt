@@ -1,5 +1,6 @@
 -- The lines of a sheet, byte for byte. Assumes nothing.
 use Rattle.std.specs.Prelude.{ℕ, Bool, true, false, List, [], ◌∷◌, ◌++◌, Ok, Err, codes, decimal, Result}
+pub use Rattle.refusals.specs.Numbers.{answer_of}
 use Rattle.refusals.specs.Numbers.{number_of}
 use Rattle.refusals.specs.declared.Refusal.{Refusal}
 use Rattle.sheets.specs.Numbers.{number_of as sheet_number_of}
@@ -12,11 +13,6 @@ use Rattle.runs.specs.declared.line.Line.TheVariants.{Bad, Fit, Key, Sector}
 abbrev pub letter_of : Side → List ℕ
 letter_of First = codes "H"
 letter_of Second = codes "D"
-
--- 0 where nothing was refused, and else the refusal's number
-abbrev pub answer_of : Result (Unit {0}) Refusal → ℕ
-answer_of (Ok u) = 0
-answer_of (Err e) = number_of e
 
 -- Y where the first bytes came back, and else N
 abbrev pub mark_of : Bool → List ℕ

@@ -1,8 +1,8 @@
 // The lines that a sheet prints.
 ghost use Rattle.std.specs.Prelude.{◌≡◌, Some};
-ghost use Rattle.runs.specs.Lines.{letter_of, answer_of, mark_of, text_of};
+ghost use Rattle.runs.specs.Lines.{letter_of, mark_of, text_of};
 
-use refusals::Refusal;
+use refusals::{Refusal, answer_number};
 use sheets::faults::Fault;
 use std::fmt;
 use watch::side::Side;
@@ -34,16 +34,6 @@ fn letter(side: Side) -> &'static str
     }
 }
 
-// 0, or the number of the refusal.
-fn number(answer: Result<(), Refusal>) -> u8
-    ensures { result ≡ answer_of answer }
-{
-    match answer {
-        Ok(()) => 0,
-        Err(refusal) => refusal.number(),
-    }
-}
-
 // Whether the first bytes came back, as a letter.
 fn mark(same: bool) -> &'static str
     ensures { result.now ≡ mark_of same }
@@ -63,12 +53,12 @@ impl fmt::Display for Line {
             }
             Line::Fit(side, answer) => {
                 let end = letter(side);
-                let n = number(answer);
+                let n = answer_number(answer);
                 write!(f, "F {end} {n}")
             }
             Line::Key(side, answer) => {
                 let end = letter(side);
-                let n = number(answer);
+                let n = answer_number(answer);
                 write!(f, "K {end} {n}")
             }
             Line::Sector(side, Ok(passed)) => {

@@ -36,6 +36,7 @@ pub enum ReadError {
     NoMemory,
 }
 
+// Both errors of memory come by `?`, and neither turns into the other.
 impl From<AllocError> for ReadError {
     ghost from_gives = { λ _ r. r ≡ NoMemory };
 

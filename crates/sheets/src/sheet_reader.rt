@@ -1,4 +1,5 @@
-// The reader of a sheet: the sheet's words, the place of its end, and where the entries' memory comes from.
+// The reader of a sheet: the sheet's words, the place of its end, and where the entries' memory comes from. A `Reader` keeps its text
+// to itself, so the place of the end stands here.
 ghost use Rattle.std.specs.Prelude.{◌≡◌, length};
 
 use std::alloc::Global;

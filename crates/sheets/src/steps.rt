@@ -37,9 +37,8 @@ impl<'a> SheetReader<'a> {
         ensures read { Tokened due self.old.end (left self.old) result (left self.new) }
         ensures kept { self.new.end ≡ self.old.end }
     {
-        let Some(word) = self.word() else {
-            return Err(bad_word(self.end));
-        };
+        let end = self.end;
+        let word = self.word().ok_or(bad_word(end))?;
         Token::of(word, due).ok_or(bad_word(word.place))
     }
 

@@ -7,7 +7,8 @@ use crate::digits::count_value;
 use crate::faults::{Fault, ReadError, SheetRefusal};
 use words::Word;
 
-// A word where a count, a letter or digits are due.
+// A word where a count, a letter or digits are due. That each case holds its part of the sheet and its place is the form that the
+// product prescribes.
 #[derive(Clone, Copy)]
 pub(crate) enum Token<'a> {
     Count {

@@ -60,7 +60,7 @@ impl Value for u8 {
     }
 }
 
-// An end: H or D. Only sheets name the ends by letters, so the match stands here and not at `Side`.
+// An end: H or D. Sheets read these letters and lines print them, and nothing else has them: so each match stands at its one place.
 impl Value for Side {
     ghost Plain = { SideType };
 

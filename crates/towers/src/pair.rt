@@ -12,8 +12,8 @@ pub struct Pair {
 }
 
 impl Pair {
-    // Whether this pair has fewer ones, or as many and the smaller constant, or the same and the smaller column where they
-    // first differ.
+    // Whether this pair has fewer ones, or as many and the smaller constant, or the same and the smaller column where they first
+    // differ. It is no `Ord`: an order reads every field, and the reverse does not count here.
     pub fn precedes(&self, other: &Pair) -> bool
         ensures { Whether (Precedes self.now other.now) result }
     {

@@ -39,8 +39,9 @@ fn powers<R: Ring>(ring: &R, g: u8) -> [u8; 4]
     [1, g, square, ring.product(g, square)]
 }
 
-// A root of z⁴ + z + 1, which every field of sixteen codes has. That the ring is such a field stays a `requires`, here and below: a
-// ghost field takes only facts with one proof, and this one holds the inverses themselves.
+// A root of z⁴ + z + 1, which every field of sixteen codes has. That the ring is such a field stays a `requires` of the few private
+// functions that build on it: what they answer is drawn from the inverses that the fact holds, and a ghost field has it only so far as
+// no answer depends on which inverses they are.
 fn root<R: Ring>(ring: &R) -> u8
     requires { Sixteen R.Ring.WIDTH (R.Ring.mul ring.now) }
     ensures code { result < 16 }
@@ -115,7 +116,7 @@ impl Search {
         Some(self.pair_at(&powers, y, u))
     }
 
-    // The best so far, after the byte y beside the root r.
+    // The best so far, after the byte y beside the root r. (A `map_or` would hide that the best stays.)
     fn place(&self, r: u8, y: u8, best: Option<Pair>) -> Option<Pair>
         requires root { IsRoot 1 (mul_mod 8 self.now.octic.modulus) r }
         requires least { Least self.now.powers self.now.coordinates (mul_mod 8 self.now.octic.modulus) (r * 256 + y) best }
@@ -160,8 +161,5 @@ pub(crate) fn least<R: Ring>(ring: &R, octic: u16) -> Pair
     requires accepted { Accepted octic }
     ensures { Keeps (R.Ring.mul ring.now) octic result }
 {
-    match Search::new(ring, Octic::new(octic)).least() {
-        Some(pair) => pair,
-        None => unreachable(),
-    }
+    Search::new(ring, Octic::new(octic)).least().unwrap()
 }
