@@ -23,7 +23,7 @@ fn triple(b: u8) -> u8
 fn sub_bytes<B: Substitute>(boxes: &B, s: [u8; 16]) -> [u8; 16]
     ensures { result ≡ sub_bytes (B.boxed boxes.now) s }
 {
-    array::from_fn(|i| boxes.substitute(s[i]))
+    s.map(|b| boxes.substitute(b))
 }
 
 // The byte that comes to row r and column c.
@@ -75,7 +75,7 @@ fn power_of_x(j: usize) -> u8
     r
 }
 
-// Byte n of a schedule stands in word n / 4. This is the byte that is added to make it.
+// The boxes and the schedule so far go side by side: the schedule is the array that is being written. Byte n stands in word n / 4. This is the byte that is added to make it.
 fn temp_byte<B: Substitute>(boxes: &B, w: &[u8; 176], n: usize) -> u8
     requires { (16 ≤ n) × (n < 176) }
     ensures { result ≡ temp (B.boxed boxes.now) w.now (n / 4) (n % 4) }

@@ -79,7 +79,7 @@ fn work<B: Substitute, F: Fn(u16) -> [u8; 16]>(
 }
 
 // Seals the bytes of a sector in place, or opens them: the same call does both. Name and number stand side by side, as in the calls of
-// an end and in the function for C.
+// an end and in the function for C; boxes and keys come as the caller has them, and an end holds both in one struct.
 pub fn work_sector<B: Substitute>(
     boxes: &B,
     keys: &Schedule,

@@ -40,12 +40,8 @@ impl Schedule {
     ) -> Result<Schedule, Refusal>
         ensures { Loaded (B.boxed boxes.now) cipher key.now work.old result work.new }
     {
-        let Some(key) = key.as_array() else {
-            return Err(Refusal::KeyLength);
-        };
-        let Some(front) = work.first_chunk_mut() else {
-            return Err(Refusal::SmallWork);
-        };
+        let key = key.as_array().ok_or(Refusal::KeyLength)?;
+        let front = work.first_chunk_mut().ok_or(Refusal::SmallWork)?;
         match cipher {
             Cipher::Aes => {
                 aes::expand(boxes, key, front);

@@ -11,12 +11,7 @@ fn read_word(bytes: &[u8], i: usize) -> u32
     requires { 4 * i + 4 ≤ length bytes.now }
     ensures { result ≡ word_at bytes.now i }
 {
-    u32::from_be_bytes([
-        bytes[4 * i],
-        bytes[4 * i + 1],
-        bytes[4 * i + 2],
-        bytes[4 * i + 3],
-    ])
+    u32::from_be_bytes(array::from_fn(|j| bytes[4 * i + j]))
 }
 
 fn read_words(bytes: &[u8; 16]) -> [u32; 4]
@@ -66,6 +61,7 @@ fn constant(i: usize) -> u32
     u32::from_be_bytes(array::from_fn(|j| (7 * (4 * i + j) % 256) as u8))
 }
 
+// Four words, each with a constant of its own.
 fn first_key_words(key: &[u8; 16]) -> [u32; 4]
     ensures { result ≡ key_words key.now }
 {
@@ -78,7 +74,8 @@ fn first_key_words(key: &[u8; 16]) -> [u32; 4]
     ]
 }
 
-// The round keys of a key, into the first 128 bytes of `work`.
+// The round keys of a key, into the first 128 bytes of `work`. The words are written by their places, since after `chunks_mut` a proof
+// does not know what was written; and the step is written out here and below, since the check does not cover `x = f(x)` of an array.
 pub(crate) fn expand<B: Substitute>(boxes: &B, key: &[u8; 16], work: &mut [u8; 176])
     ensures held { work.new ≡ bytes_of (schedule_s (B.boxed boxes.now) key.now) ++ drop 128 work.old }
     ensures words { (k : ℕ) → k < 32 → slice_index (schedule_s (B.boxed boxes.now) key.now) k < 2 ^ 32 }

@@ -16,7 +16,7 @@ use display_ring::{display_ring, pair_1f5, pair_11b};
 use refusals::Refusal;
 use towers::pair::Pair;
 
-// The letter's cipher, or the first refusal.
+// The letter's cipher, or the first refusal. The lengths are tested here too, since the refusals come before any pair is worked out.
 fn admit(letter: char, key: &[u8], bytes: &[u8]) -> Result<Cipher, Refusal>
     ensures { Admitted letter key.now bytes.now result }
 {

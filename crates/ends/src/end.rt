@@ -48,7 +48,7 @@ impl<R: Ring> End<R> {
         Ok(Answer::from(pair))
     }
 
-    // Loads a key, by way of the work area, which is zero afterwards in any case.
+    // Loads a key, by way of the work area, which is zero afterwards in any case. Letter, key and work area stand as the call has them.
     pub fn key(&mut self, letter: char, key: &[u8], work: &mut [u8]) -> Result<(), Refusal>
         ensures { Calls R.Ring.WIDTH R.Ring.mul self.old (keying letter key.now work.old work.new result) self.new }
     {

@@ -3,7 +3,7 @@ ghost use Rattle.std.specs.Prelude.{◌≡◌, ◌<◌, ◌≤◌, length};
 ghost use Rattle.towers.specs.Matrices.{apply, entries};
 ghost use Rattle.towers.specs.Place.{Solution, Solves, Reversed};
 
-// The sum of the columns that the bits of v mark.
+// The sum of the columns that the bits of v mark, bit by bit: there may be more columns than a shift of v takes.
 pub(crate) fn combine(columns: &[u8], v: u8) -> u8
     ensures { result ≡ apply columns.now v }
 {

@@ -13,7 +13,8 @@ use crate::pair::Pair;
 use rings::Ring;
 use rings::poly::Octic;
 
-// A search: the octic's ring, the powers of a root in the tower's ring, and the codes 1, 2, 4 and 8 as polynomials in that root.
+// A search: the octic's ring, the powers of a root in the tower's ring, and the codes 1, 2, 4 and 8 as polynomials in that root. What is
+// kept so far changes at each place, so it is an argument and no field.
 #[derive(Drop)]
 struct Search {
     octic: Octic,

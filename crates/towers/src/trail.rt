@@ -1,4 +1,4 @@
-// The way of a byte through a fitted tower.
+// The way of a byte through a fitted tower. Ring and pair come apart, since any pair may be walked over any ring.
 ghost use Rattle.std.specs.Prelude.{◌≡◌};
 ghost use Rattle.towers.specs.Matrices.{apply};
 ghost use Rattle.towers.specs.Trails.{TowerInverse, Trails, Through, Arrives};

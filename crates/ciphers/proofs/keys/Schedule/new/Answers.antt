@@ -13,12 +13,13 @@ past a work h =
 pub returns-in-Sm4 : goal.returns-in-Sm4
 returns-in-Sm4 g c =
     let work = c.args.work.now in
-    let front = c.in-Some-first_chunk_mut.ensures.cases in
+    let enough : 176 ≤ length work = search rules in
+    let same : c.in_ok-front.front.now ≡ take 176 work = search rules in
     record {
       sixteen = search rules;
-      room = front.enough;
+      room = enough;
       schedule = search rules;
       held =
-          ap (λ (l : List ℕ). l ++ drop 176 work) (c.sm4_words.ensures.held ∙ ap (λ (l : List ℕ). bytes_of c.sm4_words.result ++ drop 128 l) front.same)
-          ∙ past (bytes_of c.sm4_words.result) work front.enough;
+          ap (λ (l : List ℕ). l ++ drop 176 work) (c.sm4_words.ensures.held ∙ ap (λ (l : List ℕ). bytes_of c.sm4_words.result ++ drop 128 l) same)
+          ∙ past (bytes_of c.sm4_words.result) work enough;
     }
