@@ -124,11 +124,12 @@ fn final_round<B: Substitute>(boxes: &B, w: &[u8; 176], s: [u8; 16]) -> [u8; 16]
 pub(crate) fn encrypt<B: Substitute>(boxes: &B, w: &[u8; 176], block: [u8; 16]) -> [u8; 16]
     ensures { result ≡ cipher_a (B.boxed boxes.now) w.now block }
 {
-    let mut s = add_round_key(w, 0, block);
-    // The check does not cover `s = round(.., s)`, which lays a call's array where its argument stands.
-    for n in 1..10 {
-        let next = round(boxes, w, n, s);
-        s = next;
-    }
+    let s = (1..10).fold(
+        add_round_key(w, 0, block),
+        |s: [u8; 16], n: usize| -> [u8; 16]
+            requires { n ≤ 10 }
+            ensures { result ≡ full_round (B.boxed boxes.entry.now) w.entry.now n s }
+        { round(boxes, w, n, s) },
+    );
     final_round(boxes, w, s)
 }
