@@ -27,7 +27,7 @@ pub struct Published {
     pub columns: [u8; 8],
 }
 
-// The ring that a word names; no other program has these names.
+// The ring that a word names; no other program reads these names.
 pub(crate) fn ring_named(part: &[u8]) -> Option<Choice>
     ensures { result ≡ ring_of part.now }
 {

@@ -2,7 +2,7 @@
 use crate::entry::{Choice, Published, fit_of, published_for, ring_named};
 use std::{fmt, io};
 use towers::pair::Pair;
-use words::shown::Shown;
+use words::shown::{Misread, Shown};
 use words::{Word, hex_triple};
 
 // A row of a matrix of eight columns, by its number: 1 for an entry 1, and a dot for an entry 0.
@@ -65,7 +65,7 @@ fn print_fit(rt: &impl Print, ring: Word, choice: Choice, octic: u16) -> io::Res
 }
 
 fn print_bad(rt: &impl Print, word: Word, what: &str) -> io::Result<()> {
-    println!(rt; "{} at {} is no {what}", Shown(word.part), word.place)
+    println!(rt; "{}", Misread { word, what })
 }
 
 fn print_entry(rt: &impl Print, ring: Word, octic: Word) -> io::Result<()> {

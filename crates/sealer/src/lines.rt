@@ -6,6 +6,7 @@ use boxes::sbox::{BoxA, BoxS};
 use ciphers::counter::{counter_block, work_sector};
 use ciphers::keys::{Cipher, Schedule};
 use std::io;
+use words::shown::Digits;
 
 // A line for each block of the sector: its counter block and its pad.
 fn print_pads<B: Substitute>(
@@ -29,26 +30,19 @@ fn print_pads<B: Substitute>(
 // Prints the counter blocks with their pads, and the sealed bytes.
 fn seal<B: Substitute>(rt: &HostRuntime, boxes: &B, mut request: Request) -> Result<(), LineError> {
     let mut work = [0; 176];
-    let Ok(keys) = Schedule::new(boxes, request.cipher, &request.key, &mut work) else {
-        return Err(LineError::Bad(Part::Key));
-    };
-    if work_sector(
+    let keys = Schedule::new(boxes, request.cipher, &request.key, &mut work).map_err(
+        |_| Part::Key,
+    )?;
+    work_sector(
         boxes,
         &keys,
         request.name,
         request.number,
         &mut request.sector,
     )
-    .is_err()
-    {
-        return Err(LineError::Bad(Part::Sector));
-    }
+    .map_err(|_| Part::Sector)?;
     print_pads(rt, boxes, &keys, &request)?;
-    print!(rt; "sealed ")?;
-    for b in &request.sector {
-        print!(rt; "{b:02X}")?;
-    }
-    println!(rt)?;
+    println!(rt; "sealed {}", Digits(&request.sector))?;
     Ok(())
 }
 

@@ -51,6 +51,7 @@ impl From<Part> for LineError {
     }
 }
 
+// One for every error would overlap with that for `Part`.
 impl From<AllocError> for LineError {
     fn from(error: AllocError) -> LineError {
         LineError::Other(anyhow::Error::from(error))
@@ -76,12 +77,18 @@ fn bytes(heap: Global, word: &str, part: Part) -> Result<Vec<u8>, LineError> {
         .try_collect(heap)
 }
 
-// The same for a word of so many bytes.
-fn array<const N: usize>(heap: Global, word: &str, part: Part) -> Result<[u8; N], LineError> {
-    let bytes = bytes(heap, word, part)?;
-    let Ok(array) = <[u8; N]>::try_from(bytes.as_slice()) else {
-        return Err(LineError::Bad(part));
+// The same for a word of so many bytes, with no heap.
+fn array<const N: usize>(word: &str, part: Part) -> Result<[u8; N], Part> {
+    let (pairs, []) = word.as_bytes().as_chunks::<2>() else {
+        return Err(part);
     };
+    if pairs.len() != N {
+        return Err(part);
+    }
+    let mut array = [0; N];
+    for (b, digits) in array.iter_mut().zip(pairs) {
+        *b = hex_byte(digits).ok_or(part)?;
+    }
     Ok(array)
 }
 
@@ -100,9 +107,9 @@ pub(crate) fn read(heap: Global, line: &str) -> Result<Request, LineError> {
     };
     Ok(Request {
         cipher: letter(cipher)?,
-        key: array(heap, key, Part::Key)?,
-        name: u16::from_be_bytes(array(heap, name, Part::Name)?),
-        number: u64::from_be_bytes(array(heap, number, Part::Number)?),
+        key: array(key, Part::Key)?,
+        name: u16::from_be_bytes(array(name, Part::Name)?),
+        number: u64::from_be_bytes(array(number, Part::Number)?),
         sector: bytes(heap, sector, Part::Sector)?,
     })
 }

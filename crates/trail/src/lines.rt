@@ -4,11 +4,13 @@ use rings::Ring;
 use rings::poly::Octic;
 use std::{fmt, io};
 use towers::pair::Pair;
-use words::Word;
-use words::shown::Shown;
+use words::shown::Misread;
+
+// What a word should be.
+const BYTE: &str = "byte: two hexadecimal digits, letters as capitals";
 
 impl Steps {
-    // Whether the byte that came back is the inverse found directly, 0 for 0.
+    // Whether the byte that came back is the inverse found directly. The boxes' rule sends a byte without inverse to 0.
     fn agrees(&self) -> bool {
         Octic::new(0x11b).inverse(self.byte).unwrap_or(0) == self.trail.byte
     }
@@ -35,6 +37,7 @@ impl fmt::Display for Steps {
 }
 
 // How many bytes there were, and how many of them went to their inverse modulo 11B.
+// Each line is printed as it is read, so its counts are kept beside.
 #[derive(Clone, Copy, Default)]
 pub struct Report {
     agree: usize,
@@ -58,14 +61,6 @@ impl fmt::Display for Report {
     }
 }
 
-fn print_bad(rt: &impl Print, word: Word) -> io::Result<()> {
-    println!(rt;
-        "{} at {} is no byte: two hexadecimal digits, letters as capitals",
-        Shown(word.part),
-        word.place
-    )
-}
-
 // One line for each word.
 pub(crate) fn print_all(rt: &impl Print, pair: &Pair, text: &[u8]) -> io::Result<Report> {
     let mut report = Report::default();
@@ -77,7 +72,7 @@ pub(crate) fn print_all(rt: &impl Print, pair: &Pair, text: &[u8]) -> io::Result
                 report.add(&steps);
                 println!(rt; "{steps}")?;
             }
-            None => print_bad(rt, word)?,
+            None => println!(rt; "{}", Misread { word, what: BYTE })?,
         }
     }
     Ok(report)
