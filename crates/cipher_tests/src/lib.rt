@@ -64,7 +64,7 @@ mod tests {
         Schedule::new(boxes, cipher, &key.to_be_bytes(), &mut [0; 176])
     }
 
-    // A block under a key, as numbers.
+    // A block under a key, as numbers. Any box goes with any cipher.
     fn block<B: Substitute>(
         boxes: &B,
         cipher: Cipher,
@@ -81,7 +81,7 @@ mod tests {
         })
     }
 
-    // The bytes 3, 10, 17 and so on.
+    // The bytes 3, 10, 17 and so on. The bytes of the other tests too; a crate for three lines is no plainer.
     fn sector(heap: Global, length: usize) -> Result<Vec<u8>, AllocError> {
         successors(Some(3u8), |b| Some(b.wrapping_add(7)))
             .take(length)
@@ -166,7 +166,7 @@ mod tests {
         );
     }
 
-    // SP 800-38A, F.5.1.
+    // SP 800-38A, F.5.1: the sealed bytes alone, so that a failure names the direction.
     #[test]
     fn counter_mode(rt: HostRuntime) -> Result<(), Fail> {
         let keys = schedule(&Direct(BoxA), Cipher::Aes, NIST_KEY)?;

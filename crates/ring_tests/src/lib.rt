@@ -8,7 +8,7 @@ mod tests {
     use rings::poly::{Four, Octic, Quartic};
     use rings::powers::Powers13;
 
-    // The associated constant and the width that the contracts speak of.
+    // A ring's width.
     fn same_width<R: Ring>(width: u32) -> bool {
         R::WIDTH == width
     }

@@ -87,17 +87,14 @@ mod tests {
         let text = "1 H 1F5 1 D A 000102030405060708090A0B0C0D0E0F 1 H 41FE";
         let sheet = read_sheet(rt.alloc(), text.as_bytes())?;
         assert!(rt; sheet.fits.len() == 1 && sheet.keys.len() == 1 && sheet.sectors.len() == 1);
-        assert!(rt; matches!(sheet.fits[0].side, Side::First) && sheet.fits[0].octic == 0x1f5);
-        assert!(rt;
-            matches!(sheet.keys[0].side, Side::Second)
-                && matches!(sheet.keys[0].cipher, Cipher::Aes)
-        );
+        assert!(rt; sheet.fits[0].side == Side::First && sheet.fits[0].octic == 0x1f5);
+        assert!(rt; sheet.keys[0].side == Side::Second && sheet.keys[0].cipher == Cipher::Aes);
         assert_eq!(rt;
             sheet.keys[0].key,
             [0, 1, 2, 3, 4, 5, 6, 7, 8, 9, 10, 11, 12, 13, 14, 15]
         );
         assert!(rt;
-            matches!(sheet.sectors[0].side, Side::First)
+            sheet.sectors[0].side == Side::First
                 && sheet.sectors[0].bytes.as_slice() == [0x41, 0xfe].as_slice()
         );
         Ok(())
