@@ -7,6 +7,7 @@ use rings::poly::{Four, Quartic};
 use std::{fmt, io};
 use watch::side::Side;
 use watch::two::Watch;
+use words::shown::Digits;
 
 // An end as the report names it.
 #[derive(Clone, Copy)]
@@ -18,19 +19,6 @@ impl fmt::Display for Name {
             Side::First => "first",
             Side::Second => "second",
         })
-    }
-}
-
-// Bytes by their digits.
-#[derive(Clone, Copy)]
-struct Digits<'a>(&'a [u8]);
-
-impl fmt::Display for Digits<'_> {
-    fn fmt<W: fmt::Write>(&self, f: &mut fmt::Formatter<W>) -> fmt::Result {
-        for b in self.0 {
-            write!(f, "{b:02X}")?;
-        }
-        Ok(())
     }
 }
 
@@ -78,11 +66,7 @@ impl Link<'_> {
 
     pub(crate) fn tell(&self, side: Side) -> io::Result<()> {
         let name = Name(side);
-        let mut told = Told {
-            c: 0,
-            ones: 0,
-            columns: [0; 16],
-        };
+        let mut told = Told::default();
         match self.ends.tell(side, &mut told) {
             Ok(()) => {
                 let columns = Digits(&told.columns);
