@@ -1,8 +1,8 @@
--- The steps of the schedule and of the rounds of AES. Assumes nothing.
-use Rattle.std.proofs.Common.{◌≡◌, ℕ, zero, suc, ◌+◌, ◌-◌, ◌*◌, ◌/◌, ◌%◌, ◌<◌, ◌≤◌, List, [], ◌∷◌, ◌++◌, length, take, set, sym, ap, ◌∙◌, add-one, arith}
+-- The steps of the schedule of AES. Assumes nothing.
+use Rattle.std.proofs.Common.{◌≡◌, ℕ, suc, ◌+◌, ◌-◌, ◌*◌, ◌/◌, ◌%◌, ◌<◌, ◌≤◌, List, [], ◌∷◌, ◌++◌, length, take, set, sym, ap, ◌∙◌, add-one, arith}
 use Rattle.std.proofs.lemmas.List.{get_or-take, take_all, take_more_set, length-take-le, length-set}
 use Rattle.rings.specs.Poly.{mul_mod}
-use Rattle.ciphers.specs.Aes.{power, next_byte, expanded, key_expansion, rounds, full_round}
+use Rattle.ciphers.specs.Aes.{power, next_byte, expanded, key_expansion}
 
 pub power_more : (i : ℕ) → power (i + 1) ≡ mul_mod 8 0x11b 2 (power i)
 unfolding power
@@ -39,8 +39,3 @@ module _ (box : ℕ → ℕ) where
   expanded_all key w n e so =
       let long = so.long in
       sym (take_all n w (omega arith)) ∙ so.made ∙ ap (λ (x : ℕ). expanded box key (x - 16)) e
-
-  pub rounds_next : (w : List ℕ) (n : ℕ) (s : List ℕ) → 1 ≤ n → rounds box w (n + 1 - 1) s ≡ full_round box w n (rounds box w (n - 1) s)
-  unfolding rounds
-  rounds_next w (suc n) s h = let z : suc n - 1 ≡ n = omega arith in let m : suc n + 1 - 1 ≡ suc n = omega arith in ap (λ (k : ℕ). rounds box w k s) m ∙ ap (λ (k : ℕ). full_round box w (suc n) (rounds box w k s)) (sym z)
-  rounds_next w zero s h = absurd (omega arith)
