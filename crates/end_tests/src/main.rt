@@ -11,8 +11,26 @@ use rings::poly::{Four, Octic, Quartic};
 use std::alloc::{AllocError, Global};
 use std::iter::successors;
 use std::{fmt, io};
+use words::shown::Spaced;
 
 const KEY: [u8; 17] = [0, 1, 2, 3, 4, 5, 6, 7, 8, 9, 10, 11, 12, 13, 14, 15, 16];
+
+// A cipher's letter, and the octic of its box.
+#[derive(Clone, Copy)]
+struct Kind {
+    letter: char,
+    octic: u16,
+}
+
+const A: Kind = Kind {
+    letter: 'A',
+    octic: 0x11b,
+};
+
+const S: Kind = Kind {
+    letter: 'S',
+    octic: 0x1f5,
+};
 
 // 0, or the number of the refusal.
 #[derive(Clone, Copy)]
@@ -41,64 +59,81 @@ fn plain(heap: Global, length: usize) -> Result<Vec<u8>, AllocError> {
         .collect(heap)
 }
 
-fn print_columns(rt: &impl Print, told: &Told) -> io::Result<()> {
-    print!(rt; "T {} {}", told.c, told.ones)?;
-    for column in &told.columns {
-        print!(rt; " {column:02X}")?;
-    }
-    println!(rt)
+// An end at work, and where its answers go.
+#[derive(Drop)]
+struct Report<'a, R> {
+    rt: &'a HostRuntime,
+    end: End<R>,
 }
 
-fn print_trail<R: Ring>(rt: &impl Print, end: &End<R>, x: u8) -> io::Result<()> {
-    match end.trail(x) {
-        Ok(t) => println!(rt; "W {x:02X} {:02X} {:02X} {:02X}", t.code, t.inverse, t.byte),
-        Err(refusal) => println!(rt; "W {x:02X} {}", refusal.number()),
-    }
-}
-
-fn print_fitted<R: Ring>(rt: &impl Print, end: &End<R>) -> io::Result<()> {
-    let mut told = Told {
-        c: 0,
-        ones: 0,
-        columns: [0; 16],
-    };
-    let _ = end.tell(&mut told);
-    print_columns(rt, &told)?;
-    for byte in [0x00, 0x01, 0x53, 0xff] {
-        print_trail(rt, end, byte)?;
-    }
-    Ok(())
-}
-
-fn print_fit<R: Ring>(
-    rt: &impl Print,
-    label: &str,
-    end: &mut End<R>,
-    octic: u16,
-) -> io::Result<()> {
-    match end.fit(octic) {
-        Ok(pair) => {
-            println!(rt; "F {label} {octic:03X} 0 {} {}", pair.c, pair.ones)?;
-            print_fitted(rt, end)
+impl<R: Ring> Report<'_, R> {
+    fn trail(&self, x: u8) -> io::Result<()> {
+        match self.end.trail(x) {
+            Ok(t) => {
+                println!(self.rt; "W {x:02X} {:02X} {:02X} {:02X}", t.code, t.inverse, t.byte)
+            }
+            Err(refusal) => println!(self.rt; "W {x:02X} {}", refusal.number()),
         }
-        Err(refusal) => println!(rt; "F {label} {octic:03X} {}", refusal.number()),
+    }
+
+    fn fitted(&self) -> io::Result<()> {
+        let mut told = Told::default();
+        let _ = self.end.tell(&mut told);
+        println!(self.rt; "T {} {}{}", told.c, told.ones, Spaced(&told.columns))?;
+        for byte in [0x00, 0x01, 0x53, 0xff] {
+            self.trail(byte)?;
+        }
+        Ok(())
+    }
+
+    fn fit(&mut self, label: &str, octic: u16) -> io::Result<()> {
+        match self.end.fit(octic) {
+            Ok(pair) => {
+                println!(self.rt; "F {label} {octic:03X} 0 {} {}", pair.c, pair.ones)?;
+                self.fitted()
+            }
+            Err(refusal) => println!(self.rt; "F {label} {octic:03X} {}", refusal.number()),
+        }
+    }
+
+    fn byte(&self, letter: char, byte: u8) -> io::Result<()> {
+        let boxed = self.end.box_byte(letter, byte).unwrap_or(0);
+        println!(self.rt; "X {letter} {byte:02X} {boxed:02X}")
+    }
+
+    fn draw(&mut self) -> io::Result<()> {
+        match self.end.draw() {
+            Ok(t) => {
+                let name = t.name();
+                let number = burn(t);
+                println!(self.rt; "D 0 {name} {number}")
+            }
+            Err(refusal) => println!(self.rt; "D {}", refusal.number()),
+        }
+    }
+
+    fn open(&self, label: &str, number: u64, bytes: &[u8]) -> io::Result<()> {
+        let mut copy = bytes.to_vec(self.rt.alloc())?;
+        let code = Code(self.end.open(0xc0de, number, &mut copy));
+        println!(self.rt; "O {label} {code} {:016X}", digest(&copy))
     }
 }
 
 fn print_fits<R: Ring + Drop>(
-    rt: &impl Print,
+    rt: &HostRuntime,
     label: &str,
     ring: R,
     octics: &[u16],
 ) -> io::Result<()> {
-    let mut end = End::new(ring, 1, 0);
+    let end = End::new(ring, 1, 0);
+    let mut report = Report { rt, end };
     for octic in octics {
-        print_fit(rt, label, &mut end, *octic)?;
+        report.fit(label, *octic)?;
     }
     Ok(())
 }
 
-fn fits(rt: &impl Print) -> io::Result<()> {
+fn fits(rt: &HostRuntime) -> io::Result<()> {
     let octics = [0x0ff, 0x100, 0x11b, 0x11d, 0x1f5, 0x1ff, 0x200];
     print_fits(rt, "13", Quartic::Ring13, &octics)?;
     print_fits(rt, "19", Quartic::Ring19, &octics)?;
@@ -109,18 +144,16 @@ fn fits(rt: &impl Print) -> io::Result<()> {
     print_fits(rt, "octic", Octic::new(0x11b), &[0x0ff, 0x100, 0x11b])
 }
 
-// An end over ring 13, fitted for an octic or not at all.
-fn fitted(octic: Option<u16>) -> End<Quartic> {
+// An end over ring 13 that is fitted, unless the number is no octic and its fit is refused.
+fn fitted(octic: u16) -> End<Quartic> {
     let mut end = End::new(Quartic::Ring13, 1, 0);
-    if let Some(octic) = octic {
-        let _ = end.fit(octic);
-    }
+    let _ = end.fit(octic);
     end
 }
 
 fn print_key(
     rt: &HostRuntime,
-    octic: Option<u16>,
+    octic: u16,
     letter: char,
     key: &[u8],
     room: usize,
@@ -130,16 +163,12 @@ fn print_key(
     let left = work
         .iter()
         .fold(0u32, |sum, b| sum.wrapping_add(u32::from(*b)));
-    println!(rt;
-        "K {:03X} {letter} {} {room} {code} {left}",
-        octic.unwrap_or(0),
-        key.len()
-    )
+    println!(rt; "K {octic:03X} {letter} {} {room} {code} {left}", key.len())
 }
 
-fn print_keys(rt: &HostRuntime, octic: Option<u16>, letter: char) -> io::Result<()> {
+fn print_keys(rt: &HostRuntime, octic: u16, letter: char) -> io::Result<()> {
     let code = Code(fitted(octic).box_byte(letter, 0));
-    println!(rt; "B {:03X} {letter} {code}", octic.unwrap_or(0))?;
+    println!(rt; "B {octic:03X} {letter} {code}")?;
     for key in [&KEY[..15], &KEY[..16], &KEY[..17]] {
         for room in [0, 175, 176, 300] {
             print_key(rt, octic, letter, key, room)?;
@@ -149,7 +178,8 @@ fn print_keys(rt: &HostRuntime, octic: Option<u16>, letter: char) -> io::Result<
 }
 
 fn keys(rt: &HostRuntime) -> io::Result<()> {
-    for octic in [None, Some(0x11b), Some(0x1f5)] {
+    // The fit for 0 is refused.
+    for octic in [0, 0x11b, 0x1f5] {
         for letter in ['A', 'S', 'B'] {
             print_keys(rt, octic, letter)?;
         }
@@ -157,47 +187,32 @@ fn keys(rt: &HostRuntime) -> io::Result<()> {
     Ok(())
 }
 
-fn print_box(rt: &impl Print, end: &End<Quartic>, letter: char, byte: u8) -> io::Result<()> {
-    let boxed = end.box_byte(letter, byte).unwrap_or(0);
-    println!(rt; "X {letter} {byte:02X} {boxed:02X}")
-}
-
-fn boxes(rt: &impl Print) -> io::Result<()> {
-    for (letter, octic) in [('A', 0x11b), ('S', 0x1f5)] {
-        let end = fitted(Some(octic));
+fn boxes(rt: &HostRuntime) -> io::Result<()> {
+    for Kind { letter, octic } in [A, S] {
+        let end = fitted(octic);
+        let report = Report { rt, end };
         for byte in [0x00, 0x01, 0x53, 0xff] {
-            print_box(rt, &end, letter, byte)?;
+            report.byte(letter, byte)?;
         }
     }
     Ok(())
 }
 
-fn print_draw(rt: &impl Print, end: &mut End<Quartic>) -> io::Result<()> {
-    match end.draw() {
-        Ok(t) => {
-            let name = t.name();
-            let number = burn(t);
-            println!(rt; "D 0 {name} {number}")
-        }
-        Err(refusal) => println!(rt; "D {}", refusal.number()),
-    }
-}
-
-fn draws(rt: &impl Print) -> io::Result<()> {
+fn draws(rt: &HostRuntime) -> io::Result<()> {
     for first in [u64::MAX - 1, u64::MAX] {
-        let mut end = End::new(Quartic::Ring13, 1, first);
-        print_draw(rt, &mut end)?;
-        print_draw(rt, &mut end)?;
+        let end = End::new(Quartic::Ring13, 1, first);
+        let mut report = Report { rt, end };
+        report.draw()?;
+        report.draw()?;
     }
     Ok(())
 }
 
 // A keyed end under a name, over any ring.
-fn keyed<R: Ring>(ring: R, name: u16, first: u64, letter: char) -> End<R> {
-    let octic = if letter == 'A' { 0x11b } else { 0x1f5 };
+fn keyed<R: Ring>(ring: R, name: u16, first: u64, kind: Kind) -> End<R> {
     let mut end = End::new(ring, name, first);
-    let _ = end.fit(octic);
-    let _ = end.key(letter, &KEY[..16], &mut [0; 176]);
+    let _ = end.fit(kind.octic);
+    let _ = end.key(kind.letter, &KEY[..16], &mut [0; 176]);
     end
 }
 
@@ -212,7 +227,7 @@ fn sealed<R: Ring>(
 
 // An end that is keyed or wiped, and a ticket of its own or of another.
 fn print_refused_seal(rt: &HostRuntime, has_key: bool, own: bool, length: usize) -> io::Result<()> {
-    let mut end = keyed(Quartic::Ring13, 1, 0, 'A');
+    let mut end = keyed(Quartic::Ring13, 1, 0, A);
     let mut other = End::new(Quartic::Ring13, 2, 0);
     if !has_key {
         end.wipe();
@@ -224,7 +239,7 @@ fn print_refused_seal(rt: &HostRuntime, has_key: bool, own: bool, length: usize)
 }
 
 fn print_refused_open(rt: &HostRuntime, has_key: bool, length: usize) -> io::Result<()> {
-    let mut end = keyed(Quartic::Ring13, 1, 0, 'A');
+    let mut end = keyed(Quartic::Ring13, 1, 0, A);
     if !has_key {
         end.wipe();
     }
@@ -247,61 +262,50 @@ fn refusals_in_order(rt: &HostRuntime) -> io::Result<()> {
     Ok(())
 }
 
-// Opens a copy of the bytes at an end over another ring.
-fn print_open<R: Ring>(
-    rt: &HostRuntime,
-    label: &str,
-    end: &End<R>,
-    number: u64,
-    bytes: &[u8],
-) -> io::Result<()> {
-    let mut copy = bytes.to_vec(rt.alloc())?;
-    let code = Code(end.open(0xc0de, number, &mut copy));
-    println!(rt; "O {label} {code} {:016X}", digest(&copy))
-}
-
-// Opens what was sealed at an end over each of four rings.
-fn print_opens(rt: &HostRuntime, letter: char, number: u64, bytes: &[u8]) -> io::Result<()> {
-    let at_13 = keyed(Quartic::Ring13, 4, 0, letter);
-    print_open(rt, "13", &at_13, number, bytes)?;
-    let at_19 = keyed(Quartic::Ring19, 1, 0, letter);
-    print_open(rt, "19", &at_19, number, bytes)?;
-    let at_1f = keyed(Quartic::Ring1F, 2, 0, letter);
-    print_open(rt, "1F", &at_1f, number, bytes)?;
-    let at_four = keyed(Pairing::new(Four, 2), 3, 0, letter);
-    print_open(rt, "F4", &at_four, number, bytes)
+// Opens a copy of what was sealed at an end over each of four rings.
+fn print_opens(rt: &HostRuntime, kind: Kind, number: u64, bytes: &[u8]) -> io::Result<()> {
+    let end = keyed(Quartic::Ring13, 4, 0, kind);
+    Report { rt, end }.open("13", number, bytes)?;
+    let end = keyed(Quartic::Ring19, 1, 0, kind);
+    Report { rt, end }.open("19", number, bytes)?;
+    let end = keyed(Quartic::Ring1F, 2, 0, kind);
+    Report { rt, end }.open("1F", number, bytes)?;
+    let end = keyed(Pairing::new(Four, 2), 3, 0, kind);
+    Report { rt, end }.open("F4", number, bytes)
 }
 
 // Seals a sector at an end over a ring, and opens it over each of the four.
 fn print_sector<R: Ring + Drop>(
     rt: &HostRuntime,
     ring: R,
-    letter: char,
+    kind: Kind,
     number: u64,
     length: usize,
 ) -> io::Result<()> {
-    let mut end = keyed(ring, 0xc0de, number, letter);
+    let mut end = keyed(ring, 0xc0de, number, kind);
     let mut bytes = plain(rt.alloc(), length)?;
     let ticket = end.draw();
     let code = Code(sealed(&end, ticket, &mut bytes));
     println!(rt;
-        "S {letter} {length} {code} {number} {:016X}",
+        "S {} {length} {code} {number} {:016X}",
+        kind.letter,
         digest(&bytes)
     )?;
-    print_opens(rt, letter, number, &bytes)
+    print_opens(rt, kind, number, &bytes)
 }
 
-fn sectors(rt: &HostRuntime, letter: char) -> io::Result<()> {
+fn sectors(rt: &HostRuntime, kind: Kind) -> io::Result<()> {
     let numbers = 0xfedcba9876543210..=u64::MAX;
     for (number, length) in numbers.zip([0, 1, 15, 16, 17, 4096, 4097]) {
-        print_sector(rt, Quartic::Ring13, letter, number, length)?;
+        print_sector(rt, Quartic::Ring13, kind, number, length)?;
     }
-    print_sector(rt, Quartic::Ring19, letter, 7, 33)?;
-    print_sector(rt, Quartic::Ring1F, letter, 8, 33)?;
-    print_sector(rt, Pairing::new(Four, 2), letter, 9, 33)
+    print_sector(rt, Quartic::Ring19, kind, 7, 33)?;
+    print_sector(rt, Quartic::Ring1F, kind, 8, 33)?;
+    print_sector(rt, Pairing::new(Four, 2), kind, 9, 33)
 }
 
 // A ticket's number, if one was drawn, and what the seal of one byte with it answered, or the draw.
+// A refused draw has no number, and prints 0.
 #[derive(Clone, Copy)]
 struct Outcome {
     number: Option<u64>,
@@ -348,7 +352,7 @@ fn main(rt: HostRuntime) -> io::Result<()> {
     boxes(&rt)?;
     draws(&rt)?;
     refusals_in_order(&rt)?;
-    sectors(&rt, 'A')?;
-    sectors(&rt, 'S')?;
+    sectors(&rt, A)?;
+    sectors(&rt, S)?;
     forgets(&rt)
 }

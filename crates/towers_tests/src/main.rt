@@ -7,33 +7,21 @@ use rings::Ring;
 use rings::pairing::Pairing;
 use rings::poly::{Four, Octic, Quartic};
 use rings::powers::Powers13;
-use std::{fmt, io};
+use std::io;
 use test_ring::Exchanged;
 use towers::boxed::box_byte;
 use towers::fit;
 use towers::pair::Pair;
 use towers::trail::trail_of;
-
-// Columns, each after a space.
-#[derive(Clone, Copy)]
-struct Columns<'a>(&'a [u8; 8]);
-
-impl fmt::Display for Columns<'_> {
-    fn fmt<W: fmt::Write>(&self, f: &mut fmt::Formatter<W>) -> fmt::Result {
-        for column in self.0 {
-            write!(f, " {column:02X}")?;
-        }
-        Ok(())
-    }
-}
+use words::shown::Spaced;
 
 fn print_pair(rt: &impl Print, name: &str, octic: u16, pair: &Pair) -> io::Result<()> {
     println!(rt;
         "{name} {octic:03X} {} {}{}{}",
         pair.constant,
         pair.ones,
-        Columns(&pair.columns),
-        Columns(&pair.reverse)
+        Spaced(&pair.columns),
+        Spaced(&pair.reverse)
     )
 }
 

@@ -44,3 +44,16 @@ impl fmt::Display for Digits<'_> {
         Ok(())
     }
 }
+
+// Bytes by two digits each, each after a space.
+#[derive(Clone, Copy)]
+pub struct Spaced<'a>(pub &'a [u8]);
+
+impl fmt::Display for Spaced<'_> {
+    fn fmt<W: fmt::Write>(&self, f: &mut fmt::Formatter<W>) -> fmt::Result {
+        for b in self.0 {
+            write!(f, " {b:02X}")?;
+        }
+        Ok(())
+    }
+}
