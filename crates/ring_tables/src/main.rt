@@ -47,6 +47,7 @@ fn codes<R: Ring>() -> RangeInclusive<u8> {
     0..=u8::MAX >> (8 - R::WIDTH)
 }
 
+// Three functions take the runtime and a ring; a struct of the two would be longer and say no more.
 fn print_products<R: Ring>(rt: &HostRuntime, ring: &R) -> io::Result<()> {
     for a in codes::<R>() {
         let row: Vec<Shown> = codes::<R>()
