@@ -1,5 +1,6 @@
 // The lines of the report.
 use crate::entry::{Choice, Published, fit_of, published_for, ring_named};
+use refusals::Numbered;
 use std::{fmt, io};
 use towers::pair::Pair;
 use words::shown::{Misread, Shown};
@@ -55,12 +56,7 @@ fn print_fit(rt: &impl Print, ring: Word, choice: Choice, octic: u16) -> io::Res
                 None => Ok(()),
             }
         }
-        Err(refusal) => {
-            println!(rt;
-                "{name} {octic:03X}: refused with {}, {refusal}",
-                refusal.number()
-            )
-        }
+        Err(refusal) => println!(rt; "{name} {octic:03X}: {}", Numbered(refusal)),
     }
 }
 

@@ -1,7 +1,7 @@
 // Calls at two ends, each printed with its answer.
 use ends::records::Told;
 use ends::ticket::Ticket;
-use refusals::Refusal;
+use refusals::Numbered;
 use rings::pairing::Pairing;
 use rings::poly::{Four, Quartic};
 use std::{fmt, io};
@@ -22,16 +22,6 @@ impl fmt::Display for Name {
     }
 }
 
-// A refusal with its number.
-#[derive(Clone, Copy)]
-struct Refused(Refusal);
-
-impl fmt::Display for Refused {
-    fn fmt<W: fmt::Write>(&self, f: &mut fmt::Formatter<W>) -> fmt::Result {
-        write!(f, "refused with {}, {}", self.0.number(), self.0)
-    }
-}
-
 // Two ends of a link, and where the report goes.
 #[derive(Drop)]
 pub struct Link<'a> {
@@ -47,7 +37,7 @@ impl Link<'_> {
                 "{name} fit {octic:03X}: c {}, {} ones",
                 pair.c, pair.ones
             ),
-            Err(refusal) => println!(self.rt; "{name} fit {octic:03X}: {}", Refused(refusal)),
+            Err(refusal) => println!(self.rt; "{name} fit {octic:03X}: {}", Numbered(refusal)),
         }
     }
 
@@ -55,7 +45,7 @@ impl Link<'_> {
         let name = Name(side);
         match self.ends.key(side, letter, key, &mut [0; 176]) {
             Ok(()) => println!(self.rt; "{name} key {letter}: accepted"),
-            Err(refusal) => println!(self.rt; "{name} key {letter}: {}", Refused(refusal)),
+            Err(refusal) => println!(self.rt; "{name} key {letter}: {}", Numbered(refusal)),
         }
     }
 
@@ -75,7 +65,7 @@ impl Link<'_> {
                     told.c, told.ones
                 )
             }
-            Err(refusal) => println!(self.rt; "{name} tell: {}", Refused(refusal)),
+            Err(refusal) => println!(self.rt; "{name} tell: {}", Numbered(refusal)),
         }
     }
 
@@ -84,7 +74,7 @@ impl Link<'_> {
         let end = Name(side);
         match self.ends.open(side, name, number, bytes) {
             Ok(()) => println!(self.rt; "{end} open {name} {number}: {}", Digits(bytes)),
-            Err(refusal) => println!(self.rt; "{end} open {name} {number}: {}", Refused(refusal)),
+            Err(refusal) => println!(self.rt; "{end} open {name} {number}: {}", Numbered(refusal)),
         }
     }
 
@@ -97,7 +87,7 @@ impl Link<'_> {
                 println!(self.rt; "{end} seal {name} {number}: {}", Digits(bytes))?;
                 self.open(side.other(), name, number, bytes)
             }
-            Err(refusal) => println!(self.rt; "{end} seal {name} {number}: {}", Refused(refusal)),
+            Err(refusal) => println!(self.rt; "{end} seal {name} {number}: {}", Numbered(refusal)),
         }
     }
 
@@ -106,7 +96,7 @@ impl Link<'_> {
         let mut bytes = text.to_vec(self.rt.alloc())?;
         match self.ends.draw(side) {
             Ok(ticket) => self.seal(side, ticket, &mut bytes),
-            Err(refusal) => println!(self.rt; "{} draw: {}", Name(side), Refused(refusal)),
+            Err(refusal) => println!(self.rt; "{} draw: {}", Name(side), Numbered(refusal)),
         }
     }
 }
