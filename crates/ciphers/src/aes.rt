@@ -107,6 +107,8 @@ pub(crate) fn expand<B: Substitute>(boxes: &B, key: &[u8; 16], work: &mut [u8; 1
     }
 }
 
+// The bound on n, here and where a round key is added, says that a schedule has eleven round keys; a type for n would be taken apart at
+// each use.
 fn round<B: Substitute>(boxes: &B, w: &[u8; 176], n: usize, s: [u8; 16]) -> [u8; 16]
     requires { n ≤ 10 }
     ensures { result ≡ full_round (B.boxed boxes.now) w.now n s }

@@ -64,9 +64,7 @@ mod tests {
     #[test]
     fn longest(rt: HostRuntime) -> Result<(), Fail> {
         let mut sheet = [b' '; 16385];
-        sheet[0] = b'0';
-        sheet[2] = b'0';
-        sheet[4] = b'0';
+        sheet[..5].copy_from_slice(b"0 0 0");
         assert_eq!(rt; answer(rt.alloc(), &sheet[..16384])?, Ok(0));
         assert_eq!(rt; answer(rt.alloc(), &sheet)?, Err((13, 16384)));
         Ok(())
