@@ -75,8 +75,8 @@ impl Sbox for BoxS {
 
     ghost degree = { refl };
 
-    fn before(x: u8) -> u8 {
-        map_s(x)
+    fn before(b: u8) -> u8 {
+        map_s(b)
     }
 
     fn after(y: u8) -> u8 {

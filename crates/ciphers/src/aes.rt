@@ -75,7 +75,8 @@ fn power_of_x(j: usize) -> u8
     r
 }
 
-// The boxes and the schedule so far go side by side: the schedule is the array that is being written. Byte n stands in word n / 4. This is the byte that is added to make it.
+// The byte that is added to make byte n of a schedule, which stands in word n / 4. Boxes and schedule come apart: the schedule is the
+// array that is being written.
 fn temp_byte<B: Substitute>(boxes: &B, w: &[u8; 176], n: usize) -> u8
     requires { (16 ≤ n) × (n < 176) }
     ensures { result ≡ temp (B.boxed boxes.now) w.now (n / 4) (n % 4) }

@@ -52,7 +52,7 @@ fn digest(bytes: &[u8]) -> u64 {
     })
 }
 
-// The bytes 3, 10, 17 and so on.
+// The bytes 3, 10, 17 and so on. The cipher tests have the same; a crate for three lines is no plainer.
 fn plain(heap: Global, length: usize) -> Result<Vec<u8>, AllocError> {
     successors(Some(3u8), |b| Some(b.wrapping_add(7)))
         .take(length)
@@ -305,7 +305,7 @@ fn sectors(rt: &HostRuntime, kind: Kind) -> io::Result<()> {
 }
 
 // A ticket's number, if one was drawn, and what the seal of one byte with it answered, or the draw.
-// A refused draw has no number, and prints 0.
+// A refused draw has no number; the values worked out apart have 0 for it.
 #[derive(Clone, Copy)]
 struct Outcome {
     number: Option<u64>,

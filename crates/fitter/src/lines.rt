@@ -60,20 +60,14 @@ fn print_fit(rt: &impl Print, ring: Word, choice: Choice, octic: u16) -> io::Res
     }
 }
 
-fn print_bad(rt: &impl Print, word: Word, what: &str) -> io::Result<()> {
-    println!(rt; "{}", Misread { word, what })
-}
-
 fn print_entry(rt: &impl Print, ring: Word, octic: Word) -> io::Result<()> {
     let Some(choice) = ring_named(ring.part) else {
-        return print_bad(rt, ring, "ring: 13, 19, 1F, 13P, 4:2 or 4:3");
+        let what = "ring: 13, 19, 1F, 13P, 4:2 or 4:3";
+        return println!(rt; "{}", Misread { word: ring, what });
     };
     let Some(number) = hex_triple(octic.part) else {
-        return print_bad(
-            rt,
-            octic,
-            "octic: three hexadecimal digits, letters as capitals",
-        );
+        let what = "octic: three hexadecimal digits, letters as capitals";
+        return println!(rt; "{}", Misread { word: octic, what });
     };
     print_fit(rt, ring, choice, number)
 }
@@ -84,7 +78,10 @@ pub(crate) fn print_all(rt: &impl Print, text: &[u8]) -> io::Result<()> {
     while let Some(ring) = reader.word() {
         match reader.word() {
             Some(octic) => print_entry(rt, ring, octic)?,
-            None => print_bad(rt, ring, "entry: a ring and an octic")?,
+            None => {
+                let what = "entry: a ring and an octic";
+                println!(rt; "{}", Misread { word: ring, what })?;
+            }
         }
     }
     Ok(())

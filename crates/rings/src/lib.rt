@@ -19,7 +19,8 @@ pub trait Ring {
     fn product(&self, a: u8, b: u8) -> u8
         ensures { result ≡ mul self.now (a % 2 ^ WIDTH) (b % 2 ^ WIDTH) };
 
-    // The code whose product with `a` is 1, or none where there is no such code.
+    // The code whose product with `a` is 1, or none where there is no such code. (A loop: after a `find` over the codes the goals about
+    // them stay open.)
     fn inverse(&self, a: u8) -> Option<u8>
         ensures { Inverts WIDTH 1 (mul self.now) (a % 2 ^ WIDTH) result }
     {

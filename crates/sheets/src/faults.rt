@@ -29,7 +29,8 @@ pub struct Fault {
     pub place: usize,
 }
 
-// Why there is no sheet: it is refused, or there is no memory for its entries.
+// Why there is no sheet: it is refused, or there is no memory for its entries. Want of memory is an error of its own, since a bad sheet gets a
+// line and a run without memory gets none.
 #[derive(Clone, Copy, PartialEq, Eq, Debug)]
 pub enum ReadError {
     Bad(Fault),

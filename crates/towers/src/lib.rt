@@ -17,7 +17,7 @@ pub mod pair;
 mod search;
 pub mod trail;
 
-// Whether every code but 0 has an inverse.
+// Whether every code but 0 has an inverse. (A loop: after an `all` over the codes the goals about them stay open.)
 fn all_invertible<R: Ring>(ring: &R) -> bool
     requires { R.Ring.WIDTH ≡ 4 }
     ensures { Whether (Field R.Ring.WIDTH 1 (R.Ring.mul ring.now)) result }

@@ -117,7 +117,8 @@ impl Search {
         Some(self.pair_at(&powers, y, u))
     }
 
-    // The best so far, after the byte y beside the root r. (A `map_or` would hide that the best stays.)
+    // The best so far, after the byte y beside the root r. (A `map_or` is no plainer: that the
+    // best stays would be its first argument.)
     fn place(&self, r: u8, y: u8, best: Option<Pair>) -> Option<Pair>
         requires root { IsRoot 1 (mul_mod 8 self.now.octic.modulus) r }
         requires least { Least self.now.powers self.now.coordinates (mul_mod 8 self.now.octic.modulus) (r * 256 + y) best }

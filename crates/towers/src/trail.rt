@@ -16,7 +16,7 @@ pub struct Trail {
     pub byte: u8,
 }
 
-// The inverse of a code in the tower with a constant; 0 where it has none, or where the ring's width is not 4.
+// The inverse of a code in the tower with a constant; by the trail's rule 0 where it has none, and 0 where the ring's width is not 4.
 fn tower_inverse<R: Ring>(ring: &R, constant: u8, code: u8) -> u8
     ensures { TowerInverse R.Ring.WIDTH (R.Ring.mul ring.now) constant code result }
 {

@@ -37,7 +37,7 @@ impl fmt::Display for Steps {
 }
 
 // How many bytes there were, and how many of them went to their inverse modulo 11B.
-// Each line is printed as it is read, so its counts are kept beside.
+// Each line is printed as it is read, so no list is left to be counted.
 #[derive(Clone, Copy, Default)]
 pub struct Report {
     agree: usize,
