@@ -5,6 +5,7 @@ use Rattle.refusals.specs.Numbers.{number_of}
 use Rattle.refusals.specs.declared.Refusal.{Refusal}
 use Rattle.octics.specs.Octics.{Accepted, Checked}
 use Rattle.boxes.specs.Boxes.{box_a, box_s}
+use Rattle.runs.specs.Bearings.{bearing_of}
 use Rattle.towers.specs.Keeps.{Tells}
 use Rattle.towers.specs.Matrices.{entries}
 use Rattle.towers.specs.declared.pair.Pair.{Pair}
@@ -22,6 +23,8 @@ pub data Case : Type 0 where
   boxed_s : (x y : ℕ) → Case
   -- for ring 13 and the octic o the pair p is lawful, with m ones in its map and n in the reverse
   pair_13 : (o : ℕ) (p : Pair) (m n : ℕ) → Case
+  -- the number n has the bearing b, in tenths of a degree
+  bearing : (n b : ℕ) → Case
 
 -- a test of the number o answers the refusal of number n
 pub record Refused (o n : ℕ) : Type 0 where
@@ -62,6 +65,7 @@ Holds (refused o n) = Refused o n
 Holds (boxed_a x y) = box_a x ≡ y
 Holds (boxed_s x y) = box_s x ≡ y
 Holds (pair_13 o p m n) = Lawful13 o p m n
+Holds (bearing n b) = bearing_of n ≡ b
 
 abbrev pub cases : List Case
 cases =
@@ -70,6 +74,7 @@ cases =
     ∷ refused 0x0ff 2 ∷ refused 0x200 2 ∷ refused 0x100 3
     ∷ boxed_a 0x00 0x63 ∷ boxed_a 0x53 0xed ∷ boxed_s 0x00 0xd6 ∷ boxed_s 0x01 0x90
     ∷ pair_13 0x11b pair_11b 22 23 ∷ pair_13 0x1f5 pair_1f5 23 21
+    ∷ bearing 128 113 ∷ bearing 384 338 ∷ bearing 4095 3599 ∷ bearing 4096 0
     ∷ []
 
 -- each case of a list holds

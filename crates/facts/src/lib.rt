@@ -16,5 +16,5 @@ pub fn proved_cases() -> usize
     ensures hold { AllHold cases }
 {
     check_cases();
-    18
+    22
 }

@@ -80,7 +80,7 @@ lawful_1f5 = record {
 }
 
 pairs_hold : AllHold (drop 16 cases)
-pairs_hold = (lawful_11b, (lawful_1f5, tt))
+pairs_hold = (lawful_11b, (lawful_1f5, (refl, (refl, (refl, (refl, tt))))))
 
 boxes_hold : AllHold (drop 12 cases)
 boxes_hold = (boxes_a.0, (boxes_a.1, (boxes_s.0, (boxes_s.1, pairs_hold))))
