@@ -23,7 +23,8 @@ fn triple(b: u8) -> u8
 fn sub_bytes<B: Substitute>(boxes: &B, s: [u8; 16]) -> [u8; 16]
     ensures { result ≡ sub_bytes (B.boxed boxes.now) s }
 {
-    s.map(|b| boxes.substitute(b))
+    // With `map` over the bytes a sector takes a sixth more instructions.
+    array::from_fn(|i| boxes.substitute(s[i]))
 }
 
 // The byte that comes to row r and column c.
