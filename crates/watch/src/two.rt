@@ -1,8 +1,9 @@
 // A watch over two ends: the seven calls pass through it, and each log of them shows what is promised.
+ghost use Rattle.std.specs.Prelude.{◌≡◌, IfErr};
 ghost use Rattle.ends.specs.Model.Call.{fitting, keying, drawing, sealing, opening, wiping, telling};
 ghost use Rattle.watch.specs.Log.{entry};
 ghost use Rattle.watch.specs.Shows.{EachCallShows, EveryLogShows};
-ghost use Rattle.watch.specs.Watched.{Passes, Starts, fresh, kind};
+ghost use Rattle.watch.specs.Watched.{Extends, Passes, Starts, fresh, kind};
 
 use super::side::Side;
 use ends::end::End;
@@ -43,7 +44,9 @@ impl<X: Ring, Y: Ring> Watch<X, Y> {
 
     // Passes a fit on to an end.
     pub fn fit(&mut self, side: Side, octic: u16) -> Result<Answer, Refusal>
-        ensures { Passes (kind X.Ring.WIDTH X.Ring.mul) (kind Y.Ring.WIDTH Y.Ring.mul) self.old (entry side (fitting octic result)) self.new }
+        ensures goes { Passes (kind X.Ring.WIDTH X.Ring.mul) (kind Y.Ring.WIDTH Y.Ring.mul) self.old (entry side (fitting octic result)) self.new }
+        ensures onward { Extends (kind X.Ring.WIDTH X.Ring.mul) (kind Y.Ring.WIDTH Y.Ring.mul) self.old (entry side (fitting octic result)) self.new }
+        ensures unaltered { IfErr result (λ _. self.new ≡ self.old) }
     {
         each_call_shows();
         match side {
@@ -60,7 +63,9 @@ impl<X: Ring, Y: Ring> Watch<X, Y> {
         key: &[u8],
         work: &mut [u8],
     ) -> Result<(), Refusal>
-        ensures { Passes (kind X.Ring.WIDTH X.Ring.mul) (kind Y.Ring.WIDTH Y.Ring.mul) self.old (entry side (keying letter key.now work.old work.new result)) self.new }
+        ensures goes { Passes (kind X.Ring.WIDTH X.Ring.mul) (kind Y.Ring.WIDTH Y.Ring.mul) self.old (entry side (keying letter key.now work.old work.new result)) self.new }
+        ensures onward { Extends (kind X.Ring.WIDTH X.Ring.mul) (kind Y.Ring.WIDTH Y.Ring.mul) self.old (entry side (keying letter key.now work.old work.new result)) self.new }
+        ensures unaltered { IfErr result (λ _. self.new ≡ self.old) }
     {
         each_call_shows();
         match side {
@@ -71,7 +76,9 @@ impl<X: Ring, Y: Ring> Watch<X, Y> {
 
     // Draws a ticket at an end.
     pub fn draw(&mut self, side: Side) -> Result<Ticket, Refusal>
-        ensures { Passes (kind X.Ring.WIDTH X.Ring.mul) (kind Y.Ring.WIDTH Y.Ring.mul) self.old (entry side (drawing result)) self.new }
+        ensures goes { Passes (kind X.Ring.WIDTH X.Ring.mul) (kind Y.Ring.WIDTH Y.Ring.mul) self.old (entry side (drawing result)) self.new }
+        ensures onward { Extends (kind X.Ring.WIDTH X.Ring.mul) (kind Y.Ring.WIDTH Y.Ring.mul) self.old (entry side (drawing result)) self.new }
+        ensures unaltered { IfErr result (λ _. self.new ≡ self.old) }
     {
         each_call_shows();
         match side {
@@ -82,7 +89,8 @@ impl<X: Ring, Y: Ring> Watch<X, Y> {
 
     // Seals at an end.
     pub fn seal(&self, side: Side, ticket: Ticket, bytes: &mut [u8]) -> Result<(), Refusal>
-        ensures { Passes (kind X.Ring.WIDTH X.Ring.mul) (kind Y.Ring.WIDTH Y.Ring.mul) self.now (entry side (sealing ticket bytes.old bytes.new result)) self.now }
+        ensures goes { Passes (kind X.Ring.WIDTH X.Ring.mul) (kind Y.Ring.WIDTH Y.Ring.mul) self.now (entry side (sealing ticket bytes.old bytes.new result)) self.now }
+        ensures onward { Extends (kind X.Ring.WIDTH X.Ring.mul) (kind Y.Ring.WIDTH Y.Ring.mul) self.now (entry side (sealing ticket bytes.old bytes.new result)) self.now }
     {
         each_call_shows();
         match side {
@@ -93,7 +101,8 @@ impl<X: Ring, Y: Ring> Watch<X, Y> {
 
     // Opens at an end.
     pub fn open(&self, side: Side, name: u16, number: u64, bytes: &mut [u8]) -> Result<(), Refusal>
-        ensures { Passes (kind X.Ring.WIDTH X.Ring.mul) (kind Y.Ring.WIDTH Y.Ring.mul) self.now (entry side (opening name number bytes.old bytes.new result)) self.now }
+        ensures goes { Passes (kind X.Ring.WIDTH X.Ring.mul) (kind Y.Ring.WIDTH Y.Ring.mul) self.now (entry side (opening name number bytes.old bytes.new result)) self.now }
+        ensures onward { Extends (kind X.Ring.WIDTH X.Ring.mul) (kind Y.Ring.WIDTH Y.Ring.mul) self.now (entry side (opening name number bytes.old bytes.new result)) self.now }
     {
         each_call_shows();
         match side {
@@ -104,7 +113,8 @@ impl<X: Ring, Y: Ring> Watch<X, Y> {
 
     // Wipes an end.
     pub fn wipe(&mut self, side: Side)
-        ensures { Passes (kind X.Ring.WIDTH X.Ring.mul) (kind Y.Ring.WIDTH Y.Ring.mul) self.old (entry side wiping) self.new }
+        ensures goes { Passes (kind X.Ring.WIDTH X.Ring.mul) (kind Y.Ring.WIDTH Y.Ring.mul) self.old (entry side wiping) self.new }
+        ensures onward { Extends (kind X.Ring.WIDTH X.Ring.mul) (kind Y.Ring.WIDTH Y.Ring.mul) self.old (entry side wiping) self.new }
     {
         each_call_shows();
         match side {
@@ -115,7 +125,8 @@ impl<X: Ring, Y: Ring> Watch<X, Y> {
 
     // Has an end tell its pair.
     pub fn tell(&self, side: Side, told: &mut Told) -> Result<(), Refusal>
-        ensures { Passes (kind X.Ring.WIDTH X.Ring.mul) (kind Y.Ring.WIDTH Y.Ring.mul) self.now (entry side (telling told.old told.new result)) self.now }
+        ensures goes { Passes (kind X.Ring.WIDTH X.Ring.mul) (kind Y.Ring.WIDTH Y.Ring.mul) self.now (entry side (telling told.old told.new result)) self.now }
+        ensures onward { Extends (kind X.Ring.WIDTH X.Ring.mul) (kind Y.Ring.WIDTH Y.Ring.mul) self.now (entry side (telling told.old told.new result)) self.now }
     {
         each_call_shows();
         match side {
