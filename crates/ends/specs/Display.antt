@@ -8,7 +8,7 @@ use Rattle.ciphers.specs.declared.keys.Cipher.{Cipher}
 use Rattle.ciphers.specs.declared.keys.Cipher.TheVariants.{Aes, Sm4}
 use Rattle.ends.specs.declared.records.Answer.{Answer}
 use Rattle.ends.specs.Letters.{cipher_for, octic_of}
-use Rattle.ends.specs.Model.{Model, Fit, Step, refuse, unsized, worked, keyed}
+use Rattle.ends.specs.Model.{Model, Fit, Step, made, refuse, unsized, worked, keyed}
 use Rattle.ends.specs.Model.Call.{fitting, keying, opening}
 
 -- an unknown letter, a key of the wrong length, or a sector of the wrong length
@@ -61,10 +61,20 @@ Gives (Ok u) answer out old r new = (r ≡ answer) × (new ≡ out)
 abbrev pub KeepsKnown : ℕ → Option Fit → Type 0
 KeepsKnown letter f = (c : Cipher) → cipher_for letter ≡ Some c → f ≡ Some (record { octic = octic_of c; pair = known_pair c })
 
--- every such end keeps the known pair, and gives the answer r and the bytes `new`
+-- an end over the display's ring, just made, accepts such a fit and such a key, and its open answers r and leaves `new`
+pub record Exists (letter : ℕ) (key : List ℕ) (name number : ℕ) (old : List ℕ) (r : Result (Unit {0}) Refusal) (new : List ℕ) (own first : ℕ) : Type 0 where
+  pub at_end : AtEnd letter key name number old
+  pub fresh : at_end.before ≡ made 4 display_mul own first
+  pub accepts : at_end.key_answer ≡ Ok tt
+  pub answers : at_end.open_answer ≡ r
+  pub leaves : at_end.out ≡ new
+
+-- every such end keeps the known pair, and gives the answer r and the bytes `new`; where the letter is known and the key has 16
+-- bytes there is one, whatever its name and its first number
 pub record AsEnd (letter : ℕ) (key : List ℕ) (name number : ℕ) (old : List ℕ) (r : Result (Unit {0}) Refusal) (new : List ℕ) : Type 0 where
   pub keeps : (e : AtEnd letter key name number old) → KeepsKnown letter e.fitted.fitted
   pub gives : (e : AtEnd letter key name number old) → Gives e.key_answer e.open_answer e.out old r new
+  pub exists : (c : Cipher) → cipher_for letter ≡ Some c → length key ≡ 16 → (own first : ℕ) → Exists letter key name number old r new own first
 
 -- whatever answers and leaves what is opened so agrees with every such end
 abbrev pub EachOpeningAgrees : Type 0
