@@ -86,8 +86,8 @@ fn each_opening_agrees()
     ensures { EachOpeningAgrees }
 {}
 
-// Opens a sector as an end over the display's ring would that is fitted to the letter's octic and given the key. The letter is a
-// character's code.
+/// Opens a sector of 1 to 4,096 bytes as an end over the display's ring would that is fitted to the letter's octic and given the key of
+/// 16 bytes. The letter is a character's code.
 pub fn open_at_display(
     letter: u32,
     key: &[u8],

@@ -28,12 +28,14 @@ pub record Names (times : ℕ → ℕ → ℕ) (s : Side) (octic : ℕ) (a : Ans
   pub ones : pair.ones ≡ both_ones kept.tells.map kept.tells.back
   pub answered : a ≡ answer_of pair
   pub fewest : (d : ℕ) (m n : ℕ → ℕ) → Lawful times (mul_mod 8 octic) d m → Reverse m n → pair.ones ≤ both_ones m n
-  pub told : (before after : Told) (Q : Log) → Came (entry s (telling before after (Ok tt))) Q L → Since s (P ▷ entry s (fitting octic (Ok a))) Q → after ≡ told_of pair
+  pub told : (before after : Told) (Q : Log) → Came (entry s (telling before after (Ok tt))) Q L →
+      Since s (P ▷ entry s (fitting octic (Ok a))) Q → after ≡ told_of pair
 
 -- the promise, over a log of the two ends w
 pub record Shows (w : World) (L : Log) : Type 0 where
   -- one pair from fit to fit: each accepted fit has such a pair
-  pub fits : (s : Side) (octic : ℕ) (a : Answer) (P : Log) → Came (entry s (fitting octic (Ok a))) P L → Names (w s).times s octic a P L
+  pub fits : (s : Side) (octic : ℕ) (a : Answer) (P : Log) →
+      Came (entry s (fitting octic (Ok a))) P L → Names (w s).times s octic a P L
   -- and each accepted tell comes after an accepted fit
   pub tells : (s : Side) (before after : Told) (Q : Log) → Came (entry s (telling before after (Ok tt))) Q L →
       (octic : ℕ) × (a : Answer) × (P : Log) × Since s (P ▷ entry s (fitting octic (Ok a))) Q
