@@ -1,5 +1,5 @@
 // An end of a link, over any ring.
-ghost use Rattle.std.specs.Prelude.{◌≡◌};
+ghost use Rattle.std.specs.Prelude.{◌≡◌, IfErr};
 ghost use Rattle.ends.specs.Model.{Calls, made, model};
 ghost use Rattle.ends.specs.Model.Call.{fitting, keying, drawing, sealing, opening, wiping, telling, trailing, boxing};
 
@@ -24,7 +24,12 @@ pub struct End<R> {
 }
 
 impl<R: Ring> End<R> {
-    // An end under a name, whose first ticket has the number `first`; it has no fit and no key.
+    /// Makes an end over `ring` under the name `name`: the ticket that it draws first has the number `first`, and each next one the
+    /// number after. It has no fit and no key.
+    ///
+    /// A counter block is made of name, number and index alone, and an end knows nothing of the ends before it. Made anew with the same
+    /// key, name and first number, an end repeats counter blocks, and whoever has two sectors under one block learns their exclusive or.
+    /// So whoever makes an end again, as after a power cut, gives it a first number that no end of that name and key ever reached.
     pub fn new(ring: R, name: u16, first: u64) -> Self
         ensures { model R.Ring.WIDTH R.Ring.mul result ≡ made R.Ring.WIDTH (R.Ring.mul ring) name first }
     {
@@ -37,9 +42,10 @@ impl<R: Ring> End<R> {
         }
     }
 
-    // Keeps a pair for the octic, and forgets the key.
+    /// Keeps a pair for the octic, and forgets the key. A refusal leaves the end as it was.
     pub fn fit(&mut self, octic: u16) -> Result<Answer, Refusal>
-        ensures { Calls R.Ring.WIDTH R.Ring.mul self.old (fitting octic result) self.new }
+        ensures steps { Calls R.Ring.WIDTH R.Ring.mul self.old (fitting octic result) self.new }
+        ensures unaltered { IfErr result (λ _. self.new ≡ self.old) }
     {
         let pair = towers::fit(&self.ring, octic)?;
         let inverses = inverses_by(&self.ring, octic, &pair);
@@ -48,9 +54,11 @@ impl<R: Ring> End<R> {
         Ok(Answer::from(pair))
     }
 
-    // Loads a key, by way of the work area, which is zero afterwards in any case. Letter, key and work area stand as the call has them.
+    /// Loads a key of 16 bytes, by way of a work area of at least 176 bytes, all of which is zero afterwards in any case. A refusal leaves
+    /// the end as it was, with the key that it held.
     pub fn key(&mut self, letter: char, key: &[u8], work: &mut [u8]) -> Result<(), Refusal>
-        ensures { Calls R.Ring.WIDTH R.Ring.mul self.old (keying letter key.now work.old work.new result) self.new }
+        ensures steps { Calls R.Ring.WIDTH R.Ring.mul self.old (keying letter key.now work.old work.new result) self.new }
+        ensures unaltered { IfErr result (λ _. self.new ≡ self.old) }
     {
         let guard = Work { bytes: work };
         let fitted = self.fitted.as_ref().ok_or(Refusal::NoFit)?;
@@ -58,9 +66,10 @@ impl<R: Ring> End<R> {
         Ok(())
     }
 
-    // A ticket with the end's name and next number, which then rises by 1.
+    /// Draws a ticket with the end's name and next number, which then rises by 1. A refusal leaves the end as it was.
     pub fn draw(&mut self) -> Result<Ticket, Refusal>
-        ensures { Calls R.Ring.WIDTH R.Ring.mul self.old (drawing result) self.new }
+        ensures steps { Calls R.Ring.WIDTH R.Ring.mul self.old (drawing result) self.new }
+        ensures unaltered { IfErr result (λ _. self.new ≡ self.old) }
     {
         if self.next == u64::MAX {
             return Err(Refusal::NumbersUsedUp);
