@@ -9,28 +9,30 @@ use rings::Ring;
 use watch::side::Side;
 use watch::two::Watch;
 
-// Fits and keys two ends alike, seals the bytes at the first and opens them at the second: they come back in any case, and the answer
-// is the first refusal of the calls, if one is refused.
+/// Makes two ends over the rings `x` and `y`, fits both to the octic and gives each its key of the letter's cipher, by way of the work
+/// area; seals the bytes at the first end and opens them at the second. Answers the first refusal of these calls, and then the bytes
+/// are as they were. If both keys are the same, the bytes come back in any case. Once both are fitted, the work area is zero.
 pub fn round_trip<X: Ring + Drop, Y: Ring + Drop>(
     x: X,
     y: Y,
     octic: u16,
     letter: char,
-    key: &[u8],
+    first: &[u8],
+    second: &[u8],
     work: &mut [u8],
     bytes: &mut [u8],
 ) -> Result<(), Refusal>
-    ensures back { bytes.new ≡ bytes.old }
-    ensures answer { Trips (over X.Ring.WIDTH (X.Ring.mul x)) (over Y.Ring.WIDTH (Y.Ring.mul y)) octic letter key.now work.old bytes.old result work.new }
+    ensures back { first.now ≡ second.now → bytes.new ≡ bytes.old }
+    ensures answer { Trips (over X.Ring.WIDTH (X.Ring.mul x)) (over Y.Ring.WIDTH (Y.Ring.mul y)) octic letter first.now second.now work.old bytes.old result work.new bytes.new }
 {
-    let mut w = Watch::new(x, 1, 0, y, 2, 0);
-    w.fit(Side::First, octic)?;
-    w.fit(Side::Second, octic)?;
-    w.key(Side::First, letter, key, work)?;
-    w.key(Side::Second, letter, key, work)?;
-    let t = w.draw(Side::First)?;
-    let name = t.name();
-    let number = t.number();
-    w.seal(Side::First, t, bytes)?;
-    w.open(Side::Second, name, number, bytes)
+    let mut ends = Watch::new(x, 1, 0, y, 2, 0);
+    ends.fit(Side::First, octic)?;
+    ends.fit(Side::Second, octic)?;
+    ends.key(Side::First, letter, first, work)?;
+    ends.key(Side::Second, letter, second, work)?;
+    let ticket = ends.draw(Side::First)?;
+    let name = ticket.name();
+    let number = ticket.number();
+    ends.seal(Side::First, ticket, bytes)?;
+    ends.open(Side::Second, name, number, bytes)
 }
