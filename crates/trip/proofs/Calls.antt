@@ -1,9 +1,9 @@
 -- Seven calls of a watch, from what each promises. Assumes nothing.
-use Rattle.std.proofs.Common.{◌≡◌, ℕ, ◌-◌, ◌^◌, not, ◌||◌, eqb, ltb, List, length, replicate, is_some, None, Some, Ok, Err, Option, Result, sym, refl, ap, ◌∙◌, subst, arith, inl, inr}
+use Rattle.std.proofs.Common.{◌≡◌, ℕ, not, ◌||◌, eqb, ltb, List, length, replicate, is_some, None, Some, Ok, Err, Option, Result, sym, refl, ap, ◌∙◌, subst, subst₂, arith, inl, inr}
 use Rattle.std.proofs.lemmas.List.{length-replicate}
 use Rattle.std.specs.Option.{option_or}
 use Rattle.refusals.specs.declared.Refusal.{Refusal}
-use Rattle.refusals.specs.declared.Refusal.TheVariants.{NoKey, UnknownLetter, KeyLength, SmallWork, OtherName, SectorLength, NumbersUsedUp}
+use Rattle.refusals.specs.declared.Refusal.TheVariants.{NoKey, UnknownLetter, KeyLength, SmallWork, OtherName, SectorLength}
 use Rattle.towers.specs.declared.pair.Pair.{Pair}
 use Rattle.towers.specs.Fitted.{Sixteen, Refuses}
 use Rattle.ciphers.specs.declared.keys.Cipher.{Cipher}
@@ -13,12 +13,12 @@ use Rattle.ends.specs.declared.records.Answer.{Answer}
 use Rattle.ends.specs.declared.ticket.Ticket.{Ticket}
 use Rattle.ends.specs.Choice.{choice_refusal, load_refusal}
 use Rattle.ends.specs.Letters.{cipher_for, encipher}
-use Rattle.ends.specs.Model.{Model, Call, Blocks, Answers, key_refusal, seal_refusal, letter_refusal, Held, ticket, refuse, keyed, worked}
+use Rattle.ends.specs.Model.{Model, Call, Blocks, Answers, key_refusal, draw_refusal, seal_refusal, letter_refusal, ticket, refuse, keyed, worked}
 use Rattle.ends.specs.Model.Call.{fitting, keying, drawing, sealing, opening}
 use Rattle.watch.specs.declared.side.Side.{Side}
 use Rattle.watch.specs.declared.side.Side.TheVariants.{First, Second}
 use Rattle.watch.specs.declared.two.Watch.{Watch}
-use Rattle.watch.specs.Log.{Entry, Log, none, holds, taken, ◌▷◌, entry}
+use Rattle.watch.specs.Log.{Entry, Log, none, ◌▷◌, entry}
 use Rattle.watch.specs.Runs.{World, Goes, Logged}
 use Rattle.watch.specs.Shows.{Onward}
 use Rattle.watch.specs.Watched.{Kind, Starts, fresh, world}
@@ -91,26 +91,16 @@ found : (c : Option Cipher) (rest : Option Refusal) → refuse (not (is_some c))
 found None rest h = absurd cc
 found (Some k) rest h = (k, refl)
 
--- a letter with a key
-abbrev held : ℕ → List ℕ → Option Held
-held letter key = Some (record { letter = letter; key = key })
+-- an open of a sector whose length is not refused
+opens : (m : Model) (bytes out : List ℕ) (r : Result (Unit {0}) Refusal) {cipher : Blocks} → m.loaded ≡ Some cipher → sector_refusal bytes ≡ None → Answers m (opening 1 0 bytes out r)
+    → (r ≡ Ok tt) × (out ≡ sealed cipher 1 0 bytes)
+opens m bytes out (Ok u) loaded sized a = (refl, a.1 ∙ ap (λ d. worked d 1 0 bytes) loaded)
+opens m bytes out (Err e) loaded sized a =
+    absurd (let h = a.0 in let g = ap (λ d. refuse (not (is_some d)) NoKey (sector_refusal bytes)) loaded in cc)
 
--- both ends hold a key, and no ticket was drawn yet
-pub record Ready (x y : Over) (o letter : ℕ) (one two work left bytes : List ℕ) (w : World) : Type 0 where
-  pub both : BothFitted x y o
-  pub refusal : refusal_of o letter one two work bytes ≡ sector_refusal bytes
-  pub zero : left ≡ replicate (length work) 0
-  pub named : (w First).name ≡ 1
-  pub next : (w First).next ≡ 0
-  pub cipher : Cipher
-  pub is : cipher_for letter ≡ Some cipher
-  pub first : (w First).loaded ≡ Some (encipher cipher one)
-  pub second : (w Second).loaded ≡ Some (encipher cipher two)
-  pub log : Log
-  pub logged : Logged w log
-  pub unsealed : (t : Ticket) → taken t log ≡ 0
-  pub held_first : holds First log ≡ held letter one
-  pub held_second : holds Second log ≡ held letter two
+-- a call with a part that is known
+known : {A : Type 0} {w v : World} {s : Side} {r a : A} (call : A → Call) → r ≡ a → Did w (entry s (call r)) v → Did w (entry s (call a)) v
+known {w = w} {v = v} {s = s} call = subst (λ x. Did w (entry s (call x)) v)
 
 module _ {x y : Over} {w : World} {o : ℕ} (letter : ℕ) (one two work bytes : List ℕ) (at : Both x y o w) where
   first_answer : {r : Option Refusal} → key_refusal (w First) letter one work ≡ r
@@ -135,85 +125,60 @@ module _ {x y : Over} {w : World} {o : ℕ} (letter : ℕ) (one two work bytes :
     pub second_unkeyed : {u : World} {c : List ℕ} {e : Refusal} → Goes v (entry Second (keying letter two b c (Err e))) u → Trips x y o letter one two work bytes (Err e) c bytes
     second_unkeyed g = let a = second_answer g.steps.answers in (refl, inr (at.both, a.0, a.1))
 
-    pub both_keyed : {u : World} {c : List ℕ} → Did v (entry Second (keying letter two b c (Ok tt))) u → Ready x y o letter one two work c bytes u
-    both_keyed q =
-        let a = second_answer q.goes.steps.answers in
-        let k = found (cipher_for letter) _ (at_fit (w First) o letter one work at.first p.goes.steps.answers.0) in
-        let same = q.goes.stays First refl in
-        record {
-          both = at.both;
-          refusal = a.0;
-          zero = a.1;
-          named = ap (λ (m : Model). m.name) same ∙ p.goes.steps.named ∙ at.named;
-          next = omega (arith, ap (λ (m : Model). m.next) same, p.goes.steps.next, at.next);
-          cipher = k.0;
-          is = k.1;
-          first = ap (λ (m : Model). m.loaded) same ∙ p.goes.steps.holds ∙ ap (λ d. keyed d one) k.1;
-          second = q.goes.steps.holds ∙ ap (λ d. keyed d two) k.1;
-          log = _;
-          logged = q.onward.logged _ (p.onward.logged _ at.logged tt) tt;
-          unsealed = λ t. refl;
-          held_first = refl;
-          held_second = refl;
-        }
+    -- both ends hold a key, and no ticket was drawn yet
+    module _ {u : World} {c : List ℕ} (q : Did v (entry Second (keying letter two b c (Ok tt))) u) where
+      cipher : (d : Cipher) × (cipher_for letter ≡ Some d)
+      cipher = found (cipher_for letter) _ (at_fit (w First) o letter one work at.first p.goes.steps.answers.0)
 
--- ---- a sector
+      first_is : u First ≡ record (w First) { name = 1; next = 0; loaded = Some (encipher cipher.0 one) }
+      first_is =
+          let k = p.goes.steps in
+          let next : (v First).next ≡ 0 = omega (arith, k.next, at.next) in
+          q.goes.stays First refl
+          ∙ (λ i. record { bits = k.width i; times = k.ring i; name = (k.named ∙ at.named) i; next = next i; fitted = k.fits i; loaded = (k.holds ∙ ap (λ d. keyed d one) cipher.1) i })
 
--- what an end with a key refuses of a sector under its own name
-at_key : (m : Model) (bytes : List ℕ) {cipher : Blocks} {r : Option Refusal} → m.loaded ≡ Some cipher → m.name ≡ 1 → seal_refusal m (ticket 1 0) bytes ≡ r → sector_refusal bytes ≡ r
-at_key m bytes loaded named h =
-    sym (ap (λ d. refuse (not (is_some d)) NoKey (refuse (not (eqb 1 m.name)) OtherName (sector_refusal bytes))) loaded
-    ∙ ap (λ n. refuse (not (eqb 1 n)) OtherName (sector_refusal bytes)) named)
-    ∙ h
+      -- the first number can be drawn
+      pub never_undrawn : {z : World} {e : Refusal} → Goes u (entry First (drawing (Err e))) z → ⊥
+      never_undrawn {z} {e} g = let h = subst (λ (m : Model). draw_refusal m ≡ Some e) first_is g.steps.answers in cc
 
--- an open of a sector whose length is not refused
-opens : (m : Model) (bytes out : List ℕ) (r : Result (Unit {0}) Refusal) {cipher : Blocks} → m.loaded ≡ Some cipher → sector_refusal bytes ≡ None → Answers m (opening 1 0 bytes out r)
-    → (r ≡ Ok tt) × (out ≡ sealed cipher 1 0 bytes)
-opens m bytes out (Ok u) loaded sized a = (refl, a.1 ∙ ap (λ d. worked d 1 0 bytes) loaded)
-opens m bytes out (Err e) loaded sized a =
-    absurd (let h = a.0 in let g = ap (λ d. refuse (not (is_some d)) NoKey (sector_refusal bytes)) loaded in cc)
+      module _ {z : World} {t : Ticket} (d : Did u (entry First (drawing (Ok t))) z) where
+        is_first : t ≡ ticket 1 0
+        is_first = d.goes.steps.answers.1 ∙ ap (λ (m : Model). ticket m.name m.next) first_is
 
--- a call with a part that is known
-known : {A : Type 0} {w v : World} {s : Side} {r a : A} (call : A → Call) → r ≡ a → Did w (entry s (call r)) v → Did w (entry s (call a)) v
-known {w = w} {v = v} {s = s} call = subst (λ x. Did w (entry s (call x)) v)
+        loaded : (z First).loaded ≡ Some (encipher cipher.0 one)
+        loaded = d.goes.steps.holds ∙ ap (λ (m : Model). m.loaded) first_is
 
-module _ {x y : Over} {o letter : ℕ} {one two work left bytes : List ℕ} {w v : World} (at : Ready x y o letter one two work left bytes w) where
-  -- the first number can be drawn
-  pub never_undrawn : {e : Refusal} → Goes w (entry First (drawing (Err e))) v → ⊥
-  never_undrawn {e} g = let h = subst (λ n. refuse (eqb n (2 ^ 64 - 1)) NumbersUsedUp None ≡ Some e) at.next g.steps.answers in cc
+        sized : {r : Option Refusal} → seal_refusal (z First) (ticket 1 0) bytes ≡ r → sector_refusal bytes ≡ r
+        sized {r} = subst₂ (λ l n. refuse (not (is_some l)) NoKey (refuse (not (eqb 1 n)) OtherName (sector_refusal bytes)) ≡ r) loaded (d.goes.steps.named ∙ ap (λ (m : Model). m.name) first_is)
 
-  module _ {t : Ticket} (p : Did w (entry First (drawing (Ok t))) v) where
-    is_first : t ≡ ticket 1 0
-    is_first = p.goes.steps.answers.1 ∙ (λ i. ticket (at.named i) (at.next i))
+        pub unsealed : {a : List ℕ} {e : Refusal} → Goes z (entry First (sealing t bytes a (Err e))) z → Trips x y o letter one two work bytes (Err e) c a
+        unsealed {a} {e} g =
+            let s = subst (λ n. Goes z (entry First (sealing n bytes a (Err e))) z) is_first g in
+            let k = second_answer q.goes.steps.answers in
+            (s.steps.answers.1, inr (at.both, k.0 ∙ sized s.steps.answers.0, k.1))
 
-    sized : {r : Option Refusal} → seal_refusal (v First) (ticket 1 0) bytes ≡ r → sector_refusal bytes ≡ r
-    sized = at_key (v First) bytes (p.goes.steps.holds ∙ at.first) (p.goes.steps.named ∙ at.named)
-
-    pub unsealed : {b : List ℕ} {e : Refusal} → Goes v (entry First (sealing t bytes b (Err e))) v → Trips x y o letter one two work bytes (Err e) left b
-    unsealed {b} {e} g =
-        let s = subst (λ z. Goes v (entry First (sealing z bytes b (Err e))) v) is_first g in
-        (s.steps.answers.1, inr (at.both, at.refusal ∙ sized s.steps.answers.0, at.zero))
-
-    pub opened : {b out : List ℕ} {name number : ℕ} {r : Result (Unit {0}) Refusal} → Did v (entry First (sealing t bytes b (Ok tt))) v
-        → Did v (entry Second (opening name number b out r)) v → name ≡ t.name → number ≡ t.number
-        → Trips x y o letter one two work bytes r left out × (one ≡ two → out ≡ bytes)
-    opened {b} {out} {name} {number} {r} q q' named numbered =
-        let s = known (λ z. sealing z bytes b (Ok tt)) is_first q in
-        let f =
-        known (λ n. opening 1 n b out r) (numbered ∙ ap (λ (z : Ticket). z.number) is_first)
-        (known (λ n. opening n number b out r) (named ∙ ap (λ (z : Ticket). z.name) is_first) q') in
-        let right = sized s.goes.steps.answers.0 in
-        let first : b ≡ sealed (encipher at.cipher one) 1 0 bytes = s.goes.steps.answers.1 ∙ ap (λ d. worked d 1 0 bytes) (p.goes.steps.holds ∙ at.first) in
-        let long = ap length first ∙ sealed_length (encipher at.cipher one) 1 0 bytes in
-        let a =
-        opens (v Second) b out r (ap (λ (m : Model). m.loaded) (p.goes.stays Second refl) ∙ at.second)
-        (ap (λ n. refuse (eqb n 0 || ltb 4096 n) SectorLength None) long ∙ right) f.goes.steps.answers in
-        let after = a.1 ∙ ap (sealed (encipher at.cipher two) 1 0) first ∙ sym (ap (λ d. carried d one two bytes) at.is) in
-        let P : Log = at.log ▷ entry First (drawing (Ok (ticket 1 0))) in
-        let drawn = (known (λ z. drawing (Ok z)) is_first p).onward.logged at.log at.logged tt in
-        let Q : Log = P ▷ entry First (sealing (ticket 1 0) bytes b (Ok tt)) in
-        let logged = s.onward.logged P drawn (omega (arith, at.unsealed (ticket 1 0))) in (
-          subst (λ z. Trips x y o letter one two work bytes z left out) (sym a.0) (after, at.both, at.refusal ∙ right, at.zero),
-          λ e. ((f.onward.shown Q logged tt).opens First Second (ticket 1 0) bytes b out r P Q (inl (refl, refl)) (inl (refl, refl))
-              (at.held_second ∙ sym (ap (held letter) e) ∙ sym at.held_first)).1,
-        )
+        pub opened : {a out : List ℕ} {name number : ℕ} {r : Result (Unit {0}) Refusal} → Did z (entry First (sealing t bytes a (Ok tt))) z
+            → Did z (entry Second (opening name number a out r)) z → name ≡ t.name → number ≡ t.number
+            → Trips x y o letter one two work bytes r c out × (one ≡ two → out ≡ bytes)
+        opened {a} {out} {name} {number} {r} seal open' named numbered =
+            let s = known (λ n. sealing n bytes a (Ok tt)) is_first seal in
+            let f =
+            known (λ n. opening 1 n a out r) (numbered ∙ ap (λ (n : Ticket). n.number) is_first)
+            (known (λ n. opening n number a out r) (named ∙ ap (λ (n : Ticket). n.name) is_first) open') in
+            let k = second_answer q.goes.steps.answers in
+            let right = sized s.goes.steps.answers.0 in
+            let first : a ≡ sealed (encipher cipher.0 one) 1 0 bytes = s.goes.steps.answers.1 ∙ ap (λ l. worked l 1 0 bytes) loaded in
+            let long = ap length first ∙ sealed_length (encipher cipher.0 one) 1 0 bytes in
+            let second : (z Second).loaded ≡ Some (encipher cipher.0 two) =
+            ap (λ (m : Model). m.loaded) (d.goes.stays Second refl) ∙ q.goes.steps.holds ∙ ap (λ e. keyed e two) cipher.1 in
+            let last = opens (z Second) a out r second (ap (λ n. refuse (eqb n 0 || ltb 4096 n) SectorLength None) long ∙ right) f.goes.steps.answers in
+            let after = last.1 ∙ ap (sealed (encipher cipher.0 two) 1 0) first ∙ sym (ap (λ e. carried e one two bytes) cipher.1) in
+            let keyed-log = q.onward.logged _ (p.onward.logged _ at.logged tt) tt in
+            let P : Log = _ ▷ entry First (drawing (Ok (ticket 1 0))) in
+            let drawn : Logged z P = (known (λ n. drawing (Ok n)) is_first d).onward.logged _ keyed-log tt in
+            let Q : Log = P ▷ entry First (sealing (ticket 1 0) bytes a (Ok tt)) in
+            let logged : Logged z Q = s.onward.logged P drawn (omega arith) in (
+              subst (λ n. Trips x y o letter one two work bytes n c out) (sym last.0) (after, at.both, k.0 ∙ right, k.1),
+              λ e. ((f.onward.shown Q logged tt).opens First Second (ticket 1 0) bytes a out r P Q (inl (refl, refl)) (inl (refl, refl))
+                  (ap (λ key. Some (record { letter = letter; key = key })) (sym e))).1,
+            )

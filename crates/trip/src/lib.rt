@@ -25,14 +25,14 @@ pub fn round_trip<X: Ring + Drop, Y: Ring + Drop>(
     ensures back { first.now ≡ second.now → bytes.new ≡ bytes.old }
     ensures answer { Trips (over X.Ring.WIDTH (X.Ring.mul x)) (over Y.Ring.WIDTH (Y.Ring.mul y)) octic letter first.now second.now work.old bytes.old result work.new bytes.new }
 {
-    let mut ends = Watch::new(x, 1, 0, y, 2, 0);
-    ends.fit(Side::First, octic)?;
-    ends.fit(Side::Second, octic)?;
-    ends.key(Side::First, letter, first, work)?;
-    ends.key(Side::Second, letter, second, work)?;
-    let ticket = ends.draw(Side::First)?;
+    let mut w = Watch::new(x, 1, 0, y, 2, 0);
+    w.fit(Side::First, octic)?;
+    w.fit(Side::Second, octic)?;
+    w.key(Side::First, letter, first, work)?;
+    w.key(Side::Second, letter, second, work)?;
+    let ticket = w.draw(Side::First)?;
     let name = ticket.name();
     let number = ticket.number();
-    ends.seal(Side::First, ticket, bytes)?;
-    ends.open(Side::Second, name, number, bytes)
+    w.seal(Side::First, ticket, bytes)?;
+    w.open(Side::Second, name, number, bytes)
 }
