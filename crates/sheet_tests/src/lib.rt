@@ -110,17 +110,19 @@ mod tests {
         Ok(())
     }
 
-    // Both ends are fitted to 11B and hold the same key, and H sends one byte to D.
+    // What a sheet prints.
+    fn printed(heap: Global, sheet: &str) -> Result<String, AllocError> {
+        format!(in heap; "{}", run(heap, sheet.as_bytes())?)
+    }
+
+    // Both ends are fitted to 11B and hold the same key, and H sends one byte to D; and a bad sheet prints the line of its refusal.
     #[test]
     fn lines(rt: HostRuntime) -> Result<(), Fail> {
-        let sheet =
+        let small =
             "2 H 11B D 11B 2 H A 000102030405060708090A0B0C0D0E0F D A 000102030405060708090A0B0C0D0E0F 1 H 41";
-        let lines = run(rt.alloc(), sheet.as_bytes())?;
-        let expected = ["F H 0", "F D 0", "K H 0", "K D 0", "S H 0 0 0 Y"];
-        assert_eq!(rt; lines.len(), expected.len());
-        for (line, text) in lines.iter().zip(expected) {
-            assert_eq!(rt; format!(in rt.alloc(); "{line}")?.as_str(), text);
-        }
+        let text = printed(rt.alloc(), small)?;
+        assert_eq!(rt; text.as_str(), "F H 0\nF D 0\nK H 0\nK D 0\nS H 0 0 0 Y\n");
+        assert_eq!(rt; printed(rt.alloc(), "0 0 x")?.as_str(), "E 14 4\n");
         Ok(())
     }
 }
