@@ -57,6 +57,7 @@ impl<R: Ring> End<R> {
 
     /// Loads a key of 16 bytes, by way of a work area of at least 176 bytes, all of which is zero afterwards in any case. A refusal leaves
     /// the end as it was, with the key that it held.
+    // Letter, key and work area stand as the call has them.
     pub fn key(&mut self, letter: char, key: &[u8], work: &mut [u8]) -> Result<(), Refusal>
         ensures steps { Calls R.Ring.WIDTH R.Ring.mul self.old (keying letter key.now work.old work.new result) self.new }
         ensures unaltered { IfErr result (λ _. self.new ≡ self.old) }
