@@ -31,7 +31,8 @@ extern "C" {
  * were.
  *
  * Seal no two sectors under one key, name and number: who has both learns the exclusive or of their bytes. An end that is made again
- * with the same key and name, as after a power cut, repeats its numbers unless it is given a first number that was never reached.
+ * with the same key and name, as after a power cut, repeats its numbers unless its first number was never reached and lies above
+ * every number that was drawn before.
  *
  * The sector is worked in counter mode. A wrong key, name or number is not found out: the answer is 0, and the bytes are
  * opened wrongly. Opening a sector twice gives the sealed bytes again.

@@ -29,8 +29,8 @@ impl<R: Ring> End<R> {
     ///
     /// A counter block is made of name, number and index alone, and an end knows nothing of the ends before it. Made anew with the same
     /// key, name and first number, it repeats counter blocks, and whoever has two sectors under one block learns their exclusive or. So
-    /// whoever makes an end again, as after a power cut, gives it a first number that was never reached: one above every number that
-    /// was drawn under that name.
+    /// whoever makes an end again, as after a power cut, gives it a first number that was never reached, above every number that was
+    /// drawn under that name and key, or a new key.
     pub fn new(ring: R, name: u16, first: u64) -> Self
         ensures { model R.Ring.WIDTH R.Ring.mul result ≡ made R.Ring.WIDTH (R.Ring.mul ring) name first }
     {

@@ -21,7 +21,7 @@ pub data Meaning : Type 0 where
   a_key : (key : List ℕ) → Meaning
   a_sector : (bytes : List ℕ) → Meaning
 
--- the word w stands for it
+-- the word w stands for the meaning
 abbrev pub StandsFor : List ℕ → Meaning → Type 0
 StandsFor w (a_count n) = count_of w ≡ Some n
 StandsFor w (an_end s) = side_of w ≡ Some s
@@ -109,8 +109,8 @@ RefusedAt s TooLong p = (16384 < length s) × (p ≡ 16384)
 RefusedAt s BadWord p = (length s ≤ 16384) × (MissingAt s p ⊎ BadWordAt s p)
 RefusedAt s WordAfter p = (length s ≤ 16384) × WordAfterAt s p
 
--- a text is read to entries just if it has at most 16,384 bytes and its words are those of the entries in order; and a refusal's place
--- is that of the first word after which nothing makes a good sheet
+-- a text is read to entries just if it has at most 16,384 bytes and its words are those of the entries in order; and where it is
+-- refused, the refusal and its place are as RefusedAt says: a bad word is the first after which nothing makes a good sheet
 pub record Judged (s : List ℕ) : Type 0 where
   pub good : (c : Contents) → (sheet_of s ≡ Ok c) ↔ ((length s ≤ 16384) × Makes (words_in s) c)
   pub refused : (f : Fault) → sheet_of s ≡ Err f → RefusedAt s f.refusal f.place

@@ -72,7 +72,7 @@ fn sector_length(count: usize) -> bool
 }
 
 // Whether a word is a sector's digits.
-pub(crate) fn is_sector(part: &[u8]) -> bool
+pub(crate) fn has_sector_digits(part: &[u8]) -> bool
     ensures { result ≡ is_some (sector_bytes part.now) }
 {
     if !sector_length(part.len()) {

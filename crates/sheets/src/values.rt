@@ -8,7 +8,7 @@ ghost use Rattle.sheets.specs.Forms.{count_of, side_named, side_of, cipher_of, o
 ghost use Rattle.sheets.specs.Shapes.{no_count, no_side, no_cipher, no_digits};
 ghost use Rattle.sheets.specs.Steps.{Shaped, Stands, shape};
 
-use crate::digits::{count_value, is_sector, key_value, sector_value};
+use crate::digits::{count_value, has_sector_digits, key_value, sector_value};
 use crate::faults::ReadError;
 use crate::tokens::{Due, Token, bad_word, lone_letter};
 use ciphers::keys::Cipher;
@@ -211,6 +211,6 @@ impl Value for Vec<u8> {
     }
 
     fn stands(part: &[u8]) -> bool {
-        is_sector(part)
+        has_sector_digits(part)
     }
 }

@@ -1,7 +1,7 @@
 use Rattle.std.proofs.Common.{is_some, sym, ap, ◌∙◌}
 use Rattle.std.proofs.lemmas.Bool.Decides.{not_from_Decides}
 use Rattle.sheets.proofs.Decoding.{sector_none, sector_digits}
-use Rattle.sheets.proofs.digits.is_sector.Goals as goal
+use Rattle.sheets.proofs.digits.has_sector_digits.Goals as goal
 
 pub returns-then-not-sector_length : goal.returns-then-not-sector_length
 returns-then-not-sector_length c =
