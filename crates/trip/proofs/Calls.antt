@@ -22,7 +22,7 @@ use Rattle.watch.specs.Log.{Entry, Log, none, ◌▷◌, entry}
 use Rattle.watch.specs.Runs.{World, Goes, Logged}
 use Rattle.watch.specs.Shows.{Onward}
 use Rattle.watch.specs.Watched.{Kind, Starts, fresh, world}
-use Rattle.trip.specs.Trips.{Over, over, BothFitted, Unfitted, refusal_of, sector_refusal, carried, Trips}
+use Rattle.trip.specs.Trips.{Over, over, BothFitted, Unfitted, refusal_of, sector_refusal, under, Trips}
 
 -- what a watch promises of a call
 pub record Did (w : World) (e : Entry) (v : World) : Type 0 where
@@ -98,6 +98,10 @@ opens m bytes out (Ok u) loaded sized a = (refl, a.1 ∙ ap (λ d. worked d 1 0 
 opens m bytes out (Err e) loaded sized a =
     absurd (let h = a.0 in let g = ap (λ d. refuse (not (is_some d)) NoKey (sector_refusal bytes)) loaded in cc)
 
+-- what is accepted is not refused
+pub never : {r : Result (Unit {0}) Refusal} {e : Refusal} → r ≡ Err e → r ≡ Ok tt → ⊥
+never h k = let g = sym h ∙ k in cc
+
 -- a call with a part that is known
 known : {A : Type 0} {w v : World} {s : Side} {r a : A} (call : A → Call) → r ≡ a → Did w (entry s (call r)) v → Did w (entry s (call a)) v
 known {w = w} {v = v} {s = s} call = subst (λ x. Did w (entry s (call x)) v)
@@ -159,7 +163,7 @@ module _ {x y : Over} {w : World} {o : ℕ} (letter : ℕ) (one two work bytes :
 
         pub opened : {a out : List ℕ} {name number : ℕ} {r : Result (Unit {0}) Refusal} → Did z (entry First (sealing t bytes a (Ok tt))) z
             → Did z (entry Second (opening name number a out r)) z → name ≡ t.name → number ≡ t.number
-            → Trips x y o letter one two work bytes r c out × (one ≡ two → out ≡ bytes)
+            → (r ≡ Ok tt) × Trips x y o letter one two work bytes (Ok a) c out × (one ≡ two → out ≡ bytes)
         opened {a} {out} {name} {number} {r} seal open' named numbered =
             let s = known (λ n. sealing n bytes a (Ok tt)) is_first seal in
             let f =
@@ -172,13 +176,15 @@ module _ {x y : Over} {w : World} {o : ℕ} (letter : ℕ) (one two work bytes :
             let second : (z Second).loaded ≡ Some (encipher cipher.0 two) =
             ap (λ (m : Model). m.loaded) (d.goes.stays Second refl) ∙ q.goes.steps.holds ∙ ap (λ e. keyed e two) cipher.1 in
             let last = opens (z Second) a out r second (ap (λ n. refuse (eqb n 0 || ltb 4096 n) SectorLength None) long ∙ right) f.goes.steps.answers in
-            let after = last.1 ∙ ap (sealed (encipher cipher.0 two) 1 0) first ∙ sym (ap (λ e. carried e one two bytes) cipher.1) in
+            let crossed : a ≡ under (cipher_for letter) one bytes = first ∙ sym (ap (λ e. under e one bytes) cipher.1) in
+            let after : out ≡ under (cipher_for letter) two a = last.1 ∙ sym (ap (λ e. under e two a) cipher.1) in
             let keyed-log = q.onward.logged _ (p.onward.logged _ at.logged tt) tt in
             let P : Log = _ ▷ entry First (drawing (Ok (ticket 1 0))) in
             let drawn : Logged z P = (known (λ n. drawing (Ok n)) is_first d).onward.logged _ keyed-log tt in
             let Q : Log = P ▷ entry First (sealing (ticket 1 0) bytes a (Ok tt)) in
             let logged : Logged z Q = s.onward.logged P drawn (omega arith) in (
-              subst (λ n. Trips x y o letter one two work bytes n c out) (sym last.0) (after, at.both, k.0 ∙ right, k.1),
+              last.0,
+              (crossed, after, at.both, k.0 ∙ right, k.1),
               λ e. ((f.onward.shown Q logged tt).opens First Second (ticket 1 0) bytes a out r P Q (inl (refl, refl)) (inl (refl, refl))
                   (ap (λ key. Some (record { letter = letter; key = key })) (sym e))).1,
             )

@@ -39,17 +39,17 @@ abbrev pub refusal_of : ℕ → ℕ → List ℕ → List ℕ → List ℕ → L
 refusal_of octic letter one two work bytes =
     option_or (load_refusal octic letter one work) (option_or (load_refusal octic letter two work) (sector_refusal bytes))
 
--- the sector sealed under the first key and opened under the second, with the name 1 and the number 0
-abbrev pub carried : Option Cipher → List ℕ → List ℕ → List ℕ → List ℕ
-carried None one two bytes = bytes
-carried (Some c) one two bytes = sealed (encipher c two) 1 0 (sealed (encipher c one) 1 0 bytes)
+-- the sector under a key, with the name 1 and the number 0, sealed or opened alike; where the letter names no cipher, as it is
+abbrev pub under : Option Cipher → List ℕ → List ℕ → List ℕ
+under None key bytes = bytes
+under (Some c) key bytes = sealed (encipher c key) 1 0 bytes
 
--- accepted just if nothing is refused, and then the sector is carried; else the first refusal, and the bytes are as they were; the
--- work area is as it was where a fit is refused, and else zero
-abbrev pub Trips : Over → Over → ℕ → ℕ → List ℕ → List ℕ → List ℕ → List ℕ → Result (Unit {0}) Refusal
-    → List ℕ → List ℕ → Type 0
-Trips x y octic letter one two work bytes (Ok u) left after =
-    (after ≡ carried (cipher_for letter) one two bytes)
+-- accepted just if nothing is refused, and then the answer is the sector under the first key, and the bytes are the answer under the
+-- second; else the first refusal, and the bytes are as they were; the work area is as it was where a fit is refused, and else zero
+abbrev pub Trips : Over → Over → ℕ → ℕ → List ℕ → List ℕ → List ℕ → List ℕ → Result (List ℕ) Refusal → List ℕ → List ℕ → Type 0
+Trips x y octic letter one two work bytes (Ok s) left after =
+    (s ≡ under (cipher_for letter) one bytes)
+    × (after ≡ under (cipher_for letter) two s)
     × BothFitted x y octic
     × (refusal_of octic letter one two work bytes ≡ None)
     × (left ≡ replicate (length work) 0)

@@ -10,9 +10,11 @@ use watch::side::Side;
 use watch::two::Watch;
 
 /// Makes two ends over the rings `x` and `y`, fits both to the octic and gives each its key of the letter's cipher, by way of the work
-/// area; seals the bytes at the first end and opens them at the second. Answers the first refusal of these calls, and then the bytes
-/// are as they were. If both keys are the same, the bytes come back in any case. Once both are fitted, the work area is zero.
-pub fn round_trip<X: Ring + Drop, Y: Ring + Drop>(
+/// area; seals the bytes at the first end and opens them at the second. Gives what crossed between the ends: the `N` bytes as they were
+/// once sealed, which is the sector under the first key; the bytes left are these under the second. If both keys are the same, the
+/// bytes come back. Answers the first refusal of these calls, and then the bytes are as they were. Once both are fitted, the work
+/// area is zero.
+pub fn round_trip<X: Ring + Drop, Y: Ring + Drop, const N: usize>(
     x: X,
     y: Y,
     octic: u16,
@@ -20,8 +22,8 @@ pub fn round_trip<X: Ring + Drop, Y: Ring + Drop>(
     first: &[u8],
     second: &[u8],
     work: &mut [u8],
-    bytes: &mut [u8],
-) -> Result<(), Refusal>
+    bytes: &mut [u8; N],
+) -> Result<[u8; N], Refusal>
     ensures back { first.now ≡ second.now → bytes.new ≡ bytes.old }
     ensures answer { Trips (over X.Ring.WIDTH (X.Ring.mul x)) (over Y.Ring.WIDTH (Y.Ring.mul y)) octic letter first.now second.now work.old bytes.old result work.new bytes.new }
 {
@@ -34,5 +36,7 @@ pub fn round_trip<X: Ring + Drop, Y: Ring + Drop>(
     let name = ticket.name();
     let number = ticket.number();
     w.seal(Side::First, ticket, bytes)?;
-    w.open(Side::Second, name, number, bytes)
+    let sealed = *bytes;
+    w.open(Side::Second, name, number, bytes)?;
+    Ok(sealed)
 }

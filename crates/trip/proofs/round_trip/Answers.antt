@@ -1,6 +1,6 @@
 use Rattle.std.proofs.Common.{refl, inl}
 use Rattle.std.proofs.lemmas.Result.{err_from_is_err_and}
-use Rattle.trip.proofs.Calls.{did, first_unfitted, second_unfitted, both_fitted, first_unkeyed, second_unkeyed, never_undrawn, unsealed, opened}
+use Rattle.trip.proofs.Calls.{did, first_unfitted, second_unfitted, both_fitted, first_unkeyed, second_unkeyed, never_undrawn, unsealed, opened, never}
 use Rattle.trip.proofs.round_trip.Goals as goal
 
 pub returns-in_err-fit-clause-answer : goal.returns-in_err-fit-clause-answer
@@ -47,6 +47,15 @@ returns-in_err-seal-clause-answer g c =
     let d = rw c.in_ok-ticket.was at (did c.draw.ensures.goes c.draw.ensures.onward) in
     rw (p.1, p.2) (unsealed c.args.letter c.args.first.now c.args.second.now c.args.work.now c.args.bytes.now at k l d (rw c.in_err-seal.was at c.seal.ensures.goes))
 
+pub returns-in_err-open-clause-answer : goal.returns-in_err-open-clause-answer
+returns-in_err-open-clause-answer g c =
+    let f = rw c.in_ok-fit.was at (did c.fit.ensures.goes c.fit.ensures.onward) in
+    let at = both_fitted c.new-w.ensures.starts f (rw c.in_ok-fit-2.was at (did c.fit-2.ensures.goes c.fit-2.ensures.onward)) in
+    let k = rw c.in_ok-key.was at (did c.key.ensures.goes c.key.ensures.onward) in
+    let l = rw c.in_ok-key-2.was at (did c.key-2.ensures.goes c.key-2.ensures.onward) in
+    let d = rw c.in_ok-ticket.was at (did c.draw.ensures.goes c.draw.ensures.onward) in
+    absurd (never c.in_err-open.was (opened c.args.letter c.args.first.now c.args.second.now c.args.work.now c.args.bytes.now at k l d (rw c.in_ok-seal.was at (did c.seal.ensures.goes c.seal.ensures.onward)) (did c.open.ensures.goes c.open.ensures.onward) c.name-name.ensures c.number-number.ensures).0)
+
 pub returns-clause-answer : goal.returns-clause-answer
 returns-clause-answer g c =
     let f = rw c.in_ok-fit.was at (did c.fit.ensures.goes c.fit.ensures.onward) in
@@ -54,7 +63,7 @@ returns-clause-answer g c =
     let k = rw c.in_ok-key.was at (did c.key.ensures.goes c.key.ensures.onward) in
     let l = rw c.in_ok-key-2.was at (did c.key-2.ensures.goes c.key-2.ensures.onward) in
     let d = rw c.in_ok-ticket.was at (did c.draw.ensures.goes c.draw.ensures.onward) in
-    (opened c.args.letter c.args.first.now c.args.second.now c.args.work.now c.args.bytes.now at k l d (rw c.in_ok-seal.was at (did c.seal.ensures.goes c.seal.ensures.onward)) (did c.open.ensures.goes c.open.ensures.onward) c.name-name.ensures c.number-number.ensures).0
+    (opened c.args.letter c.args.first.now c.args.second.now c.args.work.now c.args.bytes.now at k l d (rw c.in_ok-seal.was at (did c.seal.ensures.goes c.seal.ensures.onward)) (did c.open.ensures.goes c.open.ensures.onward) c.name-name.ensures c.number-number.ensures).1
 
 pub returns-in_err-seal-clause-back : goal.returns-in_err-seal-clause-back
 returns-in_err-seal-clause-back g c = λ same.
@@ -65,6 +74,15 @@ returns-in_err-seal-clause-back g c = λ same.
     let d = rw c.in_ok-ticket.was at (did c.draw.ensures.goes c.draw.ensures.onward) in
     (unsealed c.args.letter c.args.first.now c.args.second.now c.args.work.now c.args.bytes.now at k l d (rw c.in_err-seal.was at c.seal.ensures.goes)).0
 
+pub returns-in_err-open-clause-back : goal.returns-in_err-open-clause-back
+returns-in_err-open-clause-back g c = λ same.
+    let f = rw c.in_ok-fit.was at (did c.fit.ensures.goes c.fit.ensures.onward) in
+    let at = both_fitted c.new-w.ensures.starts f (rw c.in_ok-fit-2.was at (did c.fit-2.ensures.goes c.fit-2.ensures.onward)) in
+    let k = rw c.in_ok-key.was at (did c.key.ensures.goes c.key.ensures.onward) in
+    let l = rw c.in_ok-key-2.was at (did c.key-2.ensures.goes c.key-2.ensures.onward) in
+    let d = rw c.in_ok-ticket.was at (did c.draw.ensures.goes c.draw.ensures.onward) in
+    absurd (never c.in_err-open.was (opened c.args.letter c.args.first.now c.args.second.now c.args.work.now c.args.bytes.now at k l d (rw c.in_ok-seal.was at (did c.seal.ensures.goes c.seal.ensures.onward)) (did c.open.ensures.goes c.open.ensures.onward) c.name-name.ensures c.number-number.ensures).0)
+
 pub returns-clause-back : goal.returns-clause-back
 returns-clause-back g c =
     let f = rw c.in_ok-fit.was at (did c.fit.ensures.goes c.fit.ensures.onward) in
@@ -72,4 +90,4 @@ returns-clause-back g c =
     let k = rw c.in_ok-key.was at (did c.key.ensures.goes c.key.ensures.onward) in
     let l = rw c.in_ok-key-2.was at (did c.key-2.ensures.goes c.key-2.ensures.onward) in
     let d = rw c.in_ok-ticket.was at (did c.draw.ensures.goes c.draw.ensures.onward) in
-    (opened c.args.letter c.args.first.now c.args.second.now c.args.work.now c.args.bytes.now at k l d (rw c.in_ok-seal.was at (did c.seal.ensures.goes c.seal.ensures.onward)) (did c.open.ensures.goes c.open.ensures.onward) c.name-name.ensures c.number-number.ensures).1
+    (opened c.args.letter c.args.first.now c.args.second.now c.args.work.now c.args.bytes.now at k l d (rw c.in_ok-seal.was at (did c.seal.ensures.goes c.seal.ensures.onward)) (did c.open.ensures.goes c.open.ensures.onward) c.name-name.ensures c.number-number.ensures).2
