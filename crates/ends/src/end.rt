@@ -43,7 +43,7 @@ impl<R: Ring> End<R> {
         }
     }
 
-    /// Keeps a pair for the octic, and forgets the key. A refusal leaves the end as it was.
+    /// Keeps a pair for the octic, and forgets the key. Answers its c and ones. Refused with 1, 2 or 3, it leaves the end as it was.
     pub fn fit(&mut self, octic: u16) -> Result<Answer, Refusal>
         ensures steps { Calls R.Ring.WIDTH R.Ring.mul self.old (fitting octic result) self.new }
         ensures unaltered { IfErr result (λ _. self.new ≡ self.old) }
@@ -55,8 +55,8 @@ impl<R: Ring> End<R> {
         Ok(Answer::from(pair))
     }
 
-    /// Loads a key of 16 bytes, by way of a work area of at least 176 bytes, all of which is zero afterwards in any case. A refusal leaves
-    /// the end as it was, with the key that it held.
+    /// Loads a key of 16 bytes, by way of a work area of at least 176 bytes, all of which is zero afterwards in any case. Refused with 4,
+    /// 5, 6, 7 or 8, it leaves the end as it was, with the key that it held.
     // Letter, key and work area stand as the call has them.
     pub fn key(&mut self, letter: char, key: &[u8], work: &mut [u8]) -> Result<(), Refusal>
         ensures steps { Calls R.Ring.WIDTH R.Ring.mul self.old (keying letter key.now work.old work.new result) self.new }
@@ -68,7 +68,7 @@ impl<R: Ring> End<R> {
         Ok(())
     }
 
-    /// Draws a ticket with the end's name and next number, which then rises by 1. A refusal leaves the end as it was.
+    /// Draws a ticket with the end's name and next number, which then rises by 1. Refused with 12, it leaves the end as it was.
     pub fn draw(&mut self) -> Result<Ticket, Refusal>
         ensures steps { Calls R.Ring.WIDTH R.Ring.mul self.old (drawing result) self.new }
         ensures unaltered { IfErr result (λ _. self.new ≡ self.old) }
@@ -84,7 +84,8 @@ impl<R: Ring> End<R> {
         })
     }
 
-    // Works the bytes under a ticket and spends it, accepted or not.
+    /// Seals a sector of 1 to 4,096 bytes in place, under a ticket of this end, and spends the ticket, accepted or not. Refused with 9, 10
+    /// or 11, it leaves the bytes as they were.
     pub fn seal(&self, ticket: Ticket, bytes: &mut [u8]) -> Result<(), Refusal>
         ensures { Calls R.Ring.WIDTH R.Ring.mul self.now (sealing ticket bytes.old bytes.new result) self.now }
     {
@@ -96,7 +97,7 @@ impl<R: Ring> End<R> {
         key.work(name, number, bytes)
     }
 
-    // Works the bytes under any name and number.
+    /// Opens a sector of 1 to 4,096 bytes in place, under any name and number. Refused with 9 or 11, it leaves the bytes as they were.
     pub fn open(&self, name: u16, number: u64, bytes: &mut [u8]) -> Result<(), Refusal>
         ensures { Calls R.Ring.WIDTH R.Ring.mul self.now (opening name number bytes.old bytes.new result) self.now }
     {
@@ -104,14 +105,14 @@ impl<R: Ring> End<R> {
         loaded.work(name, number, bytes)
     }
 
-    // Forgets the key, and keeps the fit and the number.
+    /// Forgets the key, and keeps the fit and the number.
     pub fn wipe(&mut self)
         ensures { Calls R.Ring.WIDTH R.Ring.mul self.old wiping self.new }
     {
         self.loaded = None;
     }
 
-    // Fills in the kept pair.
+    /// Fills in the kept pair: its c, its ones and 16 columns, those of its map first. Refused with 4, it leaves the record as it was.
     pub fn tell(&self, told: &mut Told) -> Result<(), Refusal>
         ensures { Calls R.Ring.WIDTH R.Ring.mul self.now (telling told.old told.new result) self.now }
     {
@@ -120,7 +121,7 @@ impl<R: Ring> End<R> {
         Ok(())
     }
 
-    // A byte's tower code, that code's tower inverse and the byte that the map makes of it.
+    /// A byte's tower code, that code's tower inverse and the byte that the map makes of it. Refused with 4.
     pub fn trail(&self, byte: u8) -> Result<Trail, Refusal>
         ensures { Calls R.Ring.WIDTH R.Ring.mul self.now (trailing byte result) self.now }
     {
@@ -128,7 +129,7 @@ impl<R: Ring> End<R> {
         Ok(trail_of(&self.ring, &fitted.pair, byte))
     }
 
-    // The byte that the letter's box makes of a byte.
+    /// The byte that the letter's box makes of a byte. Refused with 4, 5 or 6.
     pub fn box_byte(&self, letter: char, byte: u8) -> Result<u8, Refusal>
         ensures { Calls R.Ring.WIDTH R.Ring.mul self.now (boxing letter byte result) self.now }
     {

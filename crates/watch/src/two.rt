@@ -75,7 +75,7 @@ impl<X: Ring, Y: Ring> Watch<X, Y> {
         }
     }
 
-    /// Draws a ticket at an end. A refusal leaves the watch as it was.
+    /// Passes a draw on to an end. A refusal leaves the watch as it was.
     pub fn draw(&mut self, side: Side) -> Result<Ticket, Refusal>
         ensures goes { Passes (kind X.Ring.WIDTH X.Ring.mul) (kind Y.Ring.WIDTH Y.Ring.mul) self.old (entry side (drawing result)) self.new }
         ensures onward { Extends (kind X.Ring.WIDTH X.Ring.mul) (kind Y.Ring.WIDTH Y.Ring.mul) self.old (entry side (drawing result)) self.new }
@@ -88,7 +88,7 @@ impl<X: Ring, Y: Ring> Watch<X, Y> {
         }
     }
 
-    /// Seals at an end, and spends the ticket, accepted or not.
+    /// Passes a seal on to an end, which spends the ticket, accepted or not. A refusal leaves the bytes as they were.
     pub fn seal(&self, side: Side, ticket: Ticket, bytes: &mut [u8]) -> Result<(), Refusal>
         ensures goes { Passes (kind X.Ring.WIDTH X.Ring.mul) (kind Y.Ring.WIDTH Y.Ring.mul) self.now (entry side (sealing ticket bytes.old bytes.new result)) self.now }
         ensures onward { Extends (kind X.Ring.WIDTH X.Ring.mul) (kind Y.Ring.WIDTH Y.Ring.mul) self.now (entry side (sealing ticket bytes.old bytes.new result)) self.now }
@@ -100,7 +100,7 @@ impl<X: Ring, Y: Ring> Watch<X, Y> {
         }
     }
 
-    /// Opens at an end.
+    /// Passes an open on to an end. A refusal leaves the bytes as they were.
     pub fn open(&self, side: Side, name: u16, number: u64, bytes: &mut [u8]) -> Result<(), Refusal>
         ensures goes { Passes (kind X.Ring.WIDTH X.Ring.mul) (kind Y.Ring.WIDTH Y.Ring.mul) self.now (entry side (opening name number bytes.old bytes.new result)) self.now }
         ensures onward { Extends (kind X.Ring.WIDTH X.Ring.mul) (kind Y.Ring.WIDTH Y.Ring.mul) self.now (entry side (opening name number bytes.old bytes.new result)) self.now }
@@ -112,7 +112,7 @@ impl<X: Ring, Y: Ring> Watch<X, Y> {
         }
     }
 
-    /// Wipes an end.
+    /// Passes a wipe on to an end.
     pub fn wipe(&mut self, side: Side)
         ensures goes { Passes (kind X.Ring.WIDTH X.Ring.mul) (kind Y.Ring.WIDTH Y.Ring.mul) self.old (entry side wiping) self.new }
         ensures onward { Extends (kind X.Ring.WIDTH X.Ring.mul) (kind Y.Ring.WIDTH Y.Ring.mul) self.old (entry side wiping) self.new }
@@ -124,7 +124,7 @@ impl<X: Ring, Y: Ring> Watch<X, Y> {
         }
     }
 
-    /// Has an end tell its pair.
+    /// Passes a tell on to an end. A refusal leaves the record as it was.
     pub fn tell(&self, side: Side, told: &mut Told) -> Result<(), Refusal>
         ensures goes { Passes (kind X.Ring.WIDTH X.Ring.mul) (kind Y.Ring.WIDTH Y.Ring.mul) self.now (entry side (telling told.old told.new result)) self.now }
         ensures onward { Extends (kind X.Ring.WIDTH X.Ring.mul) (kind Y.Ring.WIDTH Y.Ring.mul) self.now (entry side (telling told.old told.new result)) self.now }
