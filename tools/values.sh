@@ -1,5 +1,5 @@
 #!/bin/sh
-# Works the stored outputs of programs out again, by the scripts that need nothing but Python, and compares.
+# Works seven stored outputs of programs out again, by the scripts that need nothing but Python, and compares.
 # Usage: tools/values.sh
 set -eu
 cd "$(dirname "$0")/.."
@@ -27,4 +27,5 @@ hold fitter fitter
 hold trail trail
 hold sealer sealer
 hold link link
+hold commission commission
 echo "$agreed stored outputs agree"

@@ -50,7 +50,8 @@ fn perform_sheet(heap: Global, sheet: &Sheet) -> Result<Vec<Line>, AllocError>
 /// Runs a sheet, given as its bytes: reads it, and lets a good one's entries make their calls, in their order, through a watch over the
 /// two ends. Answers what the sheet prints: a line for each entry, or the one line of a bad sheet, which makes no call.
 ///
-/// Memory for the entries and their lines comes from `heap`; an `AllocError` says that there is none, and only a good sheet gets it.
+/// Memory for the entries, their lines and a copy of each sector comes from `heap`; an `AllocError` says that there is none, and only a
+/// good sheet gets it.
 pub fn run(heap: Global, sheet: &[u8]) -> Result<Printout, AllocError>
     ensures prints { IfOk result (λ p. Commissions (sheet_of sheet.now) (lines_of p)) }
     ensures memory { IfErr result (λ _. IsOk (sheet_of sheet.now)) }

@@ -1,4 +1,4 @@
-// A caller of the watch: what is sealed at the first end is opened at the second, shown from the watch's contracts alone.
+// A caller of the watch: what is sealed at the first end is opened at the second, shown from the contracts of the watch and its tickets.
 #![tactic(auto)]
 
 ghost use Rattle.std.specs.Prelude.{◌≡◌};
@@ -10,10 +10,10 @@ use watch::side::Side;
 use watch::two::Watch;
 
 /// Makes two ends over the rings `x` and `y`, fits both to the octic and gives each its key of the letter's cipher, by way of the work
-/// area; seals the bytes at the first end and opens them at the second. Gives what crossed between the ends: the `N` bytes as they were
-/// once sealed, which is the sector under the first key; the bytes left are these under the second. If both keys are the same, the
-/// bytes come back. Answers the first refusal of these calls, and then the bytes are as they were. Once both are fitted, the work
-/// area is zero.
+/// area; seals the bytes at the first end, under name 1 and number 0, and opens them at the second. Answers the sealed bytes, as they
+/// crossed, and leaves in `bytes` what they open to under the second key: the first bytes, if both keys are the same. Refused, it
+/// answers the first refusal of these calls, and the bytes are as they were. The work area is as it was where a fit is refused, and
+/// else all zero.
 pub fn round_trip<X: Ring + Drop, Y: Ring + Drop, const N: usize>(
     x: X,
     y: Y,
