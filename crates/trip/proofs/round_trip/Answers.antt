@@ -37,57 +37,37 @@ returns-in_err-ticket-clause-answer g c =
     let l = rw c.in_ok-key-2.was at (did c.key-2.ensures.goes c.key-2.ensures.onward) in
     absurd (never_undrawn c.args.letter c.args.first.now c.args.second.now c.args.work.now c.args.bytes.now at k l (rw c.in_err-ticket.was at c.draw.ensures.goes))
 
-pub returns-in_err-seal-clause-answer : goal.returns-in_err-seal-clause-answer
-returns-in_err-seal-clause-answer g c =
+pub returns-in_err-seal : goal.returns-in_err-seal
+returns-in_err-seal g c =
     let p = err_from_is_err_and c.from_residual-in_err-seal.result c.from_residual-in_err-seal.ensures.1 in
     let f = rw c.in_ok-fit.was at (did c.fit.ensures.goes c.fit.ensures.onward) in
     let at = both_fitted c.new-w.ensures.starts f (rw c.in_ok-fit-2.was at (did c.fit-2.ensures.goes c.fit-2.ensures.onward)) in
     let k = rw c.in_ok-key.was at (did c.key.ensures.goes c.key.ensures.onward) in
     let l = rw c.in_ok-key-2.was at (did c.key-2.ensures.goes c.key-2.ensures.onward) in
     let d = rw c.in_ok-ticket.was at (did c.draw.ensures.goes c.draw.ensures.onward) in
-    rw (p.1, p.2) (unsealed c.args.letter c.args.first.now c.args.second.now c.args.work.now c.args.bytes.now at k l d (rw c.in_err-seal.was at c.seal.ensures.goes))
+    let u = unsealed c.args.letter c.args.first.now c.args.second.now c.args.work.now c.args.bytes.now at k l d (rw c.in_err-seal.was at c.seal.ensures.goes) in
+    record { back = λ same. u.0; answer = rw (p.1, p.2) u }
 
-pub returns-in_err-open-clause-answer : goal.returns-in_err-open-clause-answer
-returns-in_err-open-clause-answer g c =
+pub returns-in_err-open : goal.returns-in_err-open
+returns-in_err-open g c =
     let f = rw c.in_ok-fit.was at (did c.fit.ensures.goes c.fit.ensures.onward) in
     let at = both_fitted c.new-w.ensures.starts f (rw c.in_ok-fit-2.was at (did c.fit-2.ensures.goes c.fit-2.ensures.onward)) in
     let k = rw c.in_ok-key.was at (did c.key.ensures.goes c.key.ensures.onward) in
     let l = rw c.in_ok-key-2.was at (did c.key-2.ensures.goes c.key-2.ensures.onward) in
     let d = rw c.in_ok-ticket.was at (did c.draw.ensures.goes c.draw.ensures.onward) in
-    absurd (never c.in_err-open.was (opened c.args.letter c.args.first.now c.args.second.now c.args.work.now c.args.bytes.now at k l d (rw c.in_ok-seal.was at (did c.seal.ensures.goes c.seal.ensures.onward)) (did c.open.ensures.goes c.open.ensures.onward) c.name-name.ensures c.number-number.ensures).0)
+    let o = opened c.args.letter c.args.first.now c.args.second.now c.args.work.now c.args.bytes.now at k l d
+    (rw c.in_ok-seal.was at (did c.seal.ensures.goes c.seal.ensures.onward)) (did c.open.ensures.goes c.open.ensures.onward)
+    c.name-name.ensures c.number-number.ensures in
+    absurd (never c.in_err-open.was o.0)
 
-pub returns-clause-answer : goal.returns-clause-answer
-returns-clause-answer g c =
+pub returns : goal.returns
+returns g c =
     let f = rw c.in_ok-fit.was at (did c.fit.ensures.goes c.fit.ensures.onward) in
     let at = both_fitted c.new-w.ensures.starts f (rw c.in_ok-fit-2.was at (did c.fit-2.ensures.goes c.fit-2.ensures.onward)) in
     let k = rw c.in_ok-key.was at (did c.key.ensures.goes c.key.ensures.onward) in
     let l = rw c.in_ok-key-2.was at (did c.key-2.ensures.goes c.key-2.ensures.onward) in
     let d = rw c.in_ok-ticket.was at (did c.draw.ensures.goes c.draw.ensures.onward) in
-    (opened c.args.letter c.args.first.now c.args.second.now c.args.work.now c.args.bytes.now at k l d (rw c.in_ok-seal.was at (did c.seal.ensures.goes c.seal.ensures.onward)) (did c.open.ensures.goes c.open.ensures.onward) c.name-name.ensures c.number-number.ensures).1
-
-pub returns-in_err-seal-clause-back : goal.returns-in_err-seal-clause-back
-returns-in_err-seal-clause-back g c = λ same.
-    let f = rw c.in_ok-fit.was at (did c.fit.ensures.goes c.fit.ensures.onward) in
-    let at = both_fitted c.new-w.ensures.starts f (rw c.in_ok-fit-2.was at (did c.fit-2.ensures.goes c.fit-2.ensures.onward)) in
-    let k = rw c.in_ok-key.was at (did c.key.ensures.goes c.key.ensures.onward) in
-    let l = rw c.in_ok-key-2.was at (did c.key-2.ensures.goes c.key-2.ensures.onward) in
-    let d = rw c.in_ok-ticket.was at (did c.draw.ensures.goes c.draw.ensures.onward) in
-    (unsealed c.args.letter c.args.first.now c.args.second.now c.args.work.now c.args.bytes.now at k l d (rw c.in_err-seal.was at c.seal.ensures.goes)).0
-
-pub returns-in_err-open-clause-back : goal.returns-in_err-open-clause-back
-returns-in_err-open-clause-back g c = λ same.
-    let f = rw c.in_ok-fit.was at (did c.fit.ensures.goes c.fit.ensures.onward) in
-    let at = both_fitted c.new-w.ensures.starts f (rw c.in_ok-fit-2.was at (did c.fit-2.ensures.goes c.fit-2.ensures.onward)) in
-    let k = rw c.in_ok-key.was at (did c.key.ensures.goes c.key.ensures.onward) in
-    let l = rw c.in_ok-key-2.was at (did c.key-2.ensures.goes c.key-2.ensures.onward) in
-    let d = rw c.in_ok-ticket.was at (did c.draw.ensures.goes c.draw.ensures.onward) in
-    absurd (never c.in_err-open.was (opened c.args.letter c.args.first.now c.args.second.now c.args.work.now c.args.bytes.now at k l d (rw c.in_ok-seal.was at (did c.seal.ensures.goes c.seal.ensures.onward)) (did c.open.ensures.goes c.open.ensures.onward) c.name-name.ensures c.number-number.ensures).0)
-
-pub returns-clause-back : goal.returns-clause-back
-returns-clause-back g c =
-    let f = rw c.in_ok-fit.was at (did c.fit.ensures.goes c.fit.ensures.onward) in
-    let at = both_fitted c.new-w.ensures.starts f (rw c.in_ok-fit-2.was at (did c.fit-2.ensures.goes c.fit-2.ensures.onward)) in
-    let k = rw c.in_ok-key.was at (did c.key.ensures.goes c.key.ensures.onward) in
-    let l = rw c.in_ok-key-2.was at (did c.key-2.ensures.goes c.key-2.ensures.onward) in
-    let d = rw c.in_ok-ticket.was at (did c.draw.ensures.goes c.draw.ensures.onward) in
-    (opened c.args.letter c.args.first.now c.args.second.now c.args.work.now c.args.bytes.now at k l d (rw c.in_ok-seal.was at (did c.seal.ensures.goes c.seal.ensures.onward)) (did c.open.ensures.goes c.open.ensures.onward) c.name-name.ensures c.number-number.ensures).2
+    let o = opened c.args.letter c.args.first.now c.args.second.now c.args.work.now c.args.bytes.now at k l d
+    (rw c.in_ok-seal.was at (did c.seal.ensures.goes c.seal.ensures.onward)) (did c.open.ensures.goes c.open.ensures.onward)
+    c.name-name.ensures c.number-number.ensures in
+    record { back = o.2; answer = o.1 }
