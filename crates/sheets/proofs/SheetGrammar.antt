@@ -1,12 +1,13 @@
 -- The grammar of a sheet, from that of its words up. Assumes nothing.
-use Rattle.std.proofs.Common.{◌≡◌, ℕ, zero, suc, List, [], ◌∷◌, ◌++◌, length, flat_map, All, Some, sym, refl, ap, ◌∙◌, append-nil}
+use Rattle.std.proofs.Common.{◌≡◌, ℕ, zero, suc, List, [], ◌∷◌, ◌++◌, length, flat_map, All, Some, Option, sym, refl, ap, ◌∙◌, append-nil}
 use Rattle.std.proofs.lemmas.List.Elements.{All-nil, All-cons, All-head, All-tail}
 use Rattle.ciphers.specs.declared.keys.Cipher.TheVariants.{Aes}
+use Rattle.watch.specs.declared.side.Side.{Side}
 use Rattle.watch.specs.declared.side.Side.TheVariants.{First}
 use Rattle.sheets.specs.Contents.{Item, fit_item, key_item, sector_item, Contents}
 use Rattle.sheets.specs.Spots.{Spot}
 use Rattle.sheets.specs.Forms.{count_of, side_of, cipher_of, octic_of, key_bytes, sector_bytes, bytes_of}
-use Rattle.sheets.specs.Readings.{Reading, word_as, times, section}
+use Rattle.sheets.specs.Readings.{Reading, got, word_as, then, times, section}
 use Rattle.sheets.specs.Sheets.{fit_read, key_read, sector_read, sections}
 use Rattle.sheets.specs.Good.{Meaning, a_count, an_end, a_cipher, an_octic, a_key, a_sector, StandsFor, Spell, entry_meanings, section_meanings, IsFit, IsKey, IsSector, Makes}
 use Rattle.sheets.proofs.Grammar.{Grammar, One, word_grammar, NoWord, no_word_grammar, Both, seq_grammar, grammar_alike}
@@ -66,21 +67,36 @@ sector_grammar = word_grammar sector_bytes (48 ∷ 48 ∷ []) (0 ∷ []) refl
 abbrev Entry : (Item → Type 0) → Item → List (List ℕ) → Type 0
 Entry K x ws = K x × Spell ws (entry_meanings x)
 
-abbrev FitWords : Item → List (List ℕ) → Type 0
-FitWords = Both (One side_of) (λ s. Both (One octic_of) (λ o. NoWord (fit_item s o)))
+-- an entry of an end and one word more, which stands for a value by f, and has the meaning m of it
+module _ {V : Type 0} (f : List ℕ → Option V) (word : Grammar (word_as f) (One f)) (m : V → Meaning) (item : Side → V → Item)
+    (to : (w : List ℕ) (v : V) → f w ≡ Some v → StandsFor w (m v)) (from : (w : List ℕ) (v : V) → StandsFor w (m v) → f w ≡ Some v)
+    (are : (s : Side) (v : V) → entry_meanings (item s v) ≡ an_end s ∷ m v ∷ []) where
+  abbrev pub IsPair : Item → Type 0
+  IsPair x = (s : Side) × (v : V) × (x ≡ item s v)
 
-to_fit : (x : Item) (ws : List (List ℕ)) → FitWords x ws → Entry IsFit x ws
-to_fit x ws r = let t = r.5 in ((r.0, t.0, t.5.0), rw (t.5.0, r.3, r.4.1, t.3, t.4.1, t.5.1) (r.4.2, (t.4.2, tt)))
+  abbrev PairWords : Item → List (List ℕ) → Type 0
+  PairWords = Both (One side_of) (λ s. Both (One f) (λ v. NoWord (item s v)))
 
-from_fit : (x : Item) (ws : List (List ℕ)) → Entry IsFit x ws → FitWords x ws
-from_fit x ws k =
-    let i = k.0 in
-    let h = one_spelled (an_end i.0) (an_octic i.1 ∷ []) ws (rw i.2 at k.1) in
-    let t = one_spelled (an_octic i.1) [] h.1 h.4 in
-    (i.0, h.0 ∷ [], h.1, h.2, (h.0, refl, h.3), (i.1, t.0 ∷ [], t.1, t.2, (t.0, refl, t.3), (i.2, none_spelled t.1 t.4)))
+  to_pair : (x : Item) (ws : List (List ℕ)) → PairWords x ws → Entry IsPair x ws
+  to_pair x ws r =
+      let t = r.5 in
+      ((r.0, t.0, t.5.0), rw (t.5.0, are r.0 t.0, r.3, r.4.1, t.3, t.4.1, t.5.1) (r.4.2, (to t.4.0 t.0 t.4.2, tt)))
+
+  from_pair : (x : Item) (ws : List (List ℕ)) → Entry IsPair x ws → PairWords x ws
+  from_pair x ws k =
+      let i = k.0 in
+      let h = one_spelled (an_end i.0) (m i.1 ∷ []) ws (rw (i.2, are i.0 i.1) at k.1) in
+      let t = one_spelled (m i.1) [] h.1 h.4 in
+      (i.0, h.0 ∷ [], h.1, h.2, (h.0, refl, h.3), (i.1, t.0 ∷ [], t.1, t.2, (t.0, refl, from t.0 i.1 t.3), (i.2, none_spelled t.1 t.4)))
+
+  pair_grammar : Grammar (λ end ws. then (word_as side_of end ws) (λ s vs. then (word_as f end vs) (λ v us. got (item s v) us))) (Entry IsPair)
+  pair_grammar = grammar_alike to_pair from_pair (seq_grammar side_grammar (λ s. seq_grammar word (λ v. no_word_grammar (item s v))))
 
 fit_grammar : Grammar fit_read (Entry IsFit)
-fit_grammar = grammar_alike to_fit from_fit (seq_grammar side_grammar (λ s. seq_grammar octic_grammar (λ o. no_word_grammar (fit_item s o))))
+fit_grammar = pair_grammar octic_of octic_grammar (λ o. an_octic o) (λ s o. fit_item s o) (λ w v e. e) (λ w v e. e) (λ s v. refl)
+
+sector_entry_grammar : Grammar sector_read (Entry IsSector)
+sector_entry_grammar = pair_grammar sector_bytes sector_grammar (λ b. a_sector b) (λ s b. sector_item s b) (λ w v e. e) (λ w v e. e) (λ s v. refl)
 
 abbrev KeyWords : Item → List (List ℕ) → Type 0
 KeyWords = Both (One side_of) (λ s. Both (One cipher_of) (λ c. Both (One key_bytes) (λ k. NoWord (key_item s c k))))
@@ -109,22 +125,6 @@ key_entry_grammar : Grammar key_read (Entry IsKey)
 key_entry_grammar =
     grammar_alike to_key from_key
     (seq_grammar side_grammar (λ s. seq_grammar cipher_grammar (λ c. seq_grammar key_grammar (λ k. no_word_grammar (key_item s c k)))))
-
-abbrev SectorWords : Item → List (List ℕ) → Type 0
-SectorWords = Both (One side_of) (λ s. Both (One sector_bytes) (λ b. NoWord (sector_item s b)))
-
-to_sector : (x : Item) (ws : List (List ℕ)) → SectorWords x ws → Entry IsSector x ws
-to_sector x ws r = let t = r.5 in ((r.0, t.0, t.5.0), rw (t.5.0, r.3, r.4.1, t.3, t.4.1, t.5.1) (r.4.2, (t.4.2, tt)))
-
-from_sector : (x : Item) (ws : List (List ℕ)) → Entry IsSector x ws → SectorWords x ws
-from_sector x ws k =
-    let i = k.0 in
-    let h = one_spelled (an_end i.0) (a_sector i.1 ∷ []) ws (rw i.2 at k.1) in
-    let t = one_spelled (a_sector i.1) [] h.1 h.4 in
-    (i.0, h.0 ∷ [], h.1, h.2, (h.0, refl, h.3), (i.1, t.0 ∷ [], t.1, t.2, (t.0, refl, t.3), (i.2, none_spelled t.1 t.4)))
-
-sector_entry_grammar : Grammar sector_read (Entry IsSector)
-sector_entry_grammar = grammar_alike to_sector from_sector (seq_grammar side_grammar (λ s. seq_grammar sector_grammar (λ b. no_word_grammar (sector_item s b))))
 
 -- ---- sections
 

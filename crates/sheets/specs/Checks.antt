@@ -11,10 +11,10 @@ abbrev pub bare : {A : Type 0} → Reading A → Reading (Unit {0})
 bare (got v ws) = got tt ws
 bare (bad p) = bad p
 
--- r tells what the reading o comes to, and vs are the words left by it
-abbrev pub Tells : {A : Type 0} → Reading A → Result A Fault → List Spot → Type 0
-Tells o (Ok x) vs = o ≡ got x vs
-Tells o (Err f) vs = (f.refusal ≡ BadWord) × (o ≡ bad f.place)
+-- the reading o comes to what r says, and vs are the words that it leaves
+abbrev pub ComesTo : {A : Type 0} → Reading A → Result A Fault → List Spot → Type 0
+ComesTo o (Ok x) vs = o ≡ got x vs
+ComesTo o (Err f) vs = (f.refusal ≡ BadWord) × (o ≡ bad f.place)
 
 -- what a check answers: that a sheet is good, or its refusal and the place of that
 abbrev pub verdict : Result Contents Fault → Result (Unit {0}) Fault

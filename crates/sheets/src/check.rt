@@ -1,6 +1,6 @@
 // Checks a sheet: whether it is good, by its bytes alone.
 ghost use Rattle.std.specs.Prelude.{◌≡◌};
-ghost use Rattle.sheets.specs.Checks.{Tells, bare, verdict};
+ghost use Rattle.sheets.specs.Checks.{ComesTo, bare, verdict};
 ghost use Rattle.sheets.specs.Good.{Judged};
 ghost use Rattle.sheets.specs.Sheets.{sections, sheet_of, words_hold};
 ghost use Rattle.sheets.specs.Steps.{ahead};
@@ -48,7 +48,7 @@ fn check_words(sheet: &[u8]) -> Result<(), Fault>
 
 // The three sections, of a sheet of `end` bytes.
 fn check_sections(words: &mut Reader, end: usize) -> Result<(), Fault>
-    ensures { Tells (bare (sections end (ahead words.old))) result (ahead words.new) }
+    ensures { ComesTo (bare (sections end (ahead words.old))) result (ahead words.new) }
 {
     check_section::<FitEntry>(words, end)?;
     check_section::<KeyEntry>(words, end)?;

@@ -1,6 +1,6 @@
 // The sections of a sheet: a count, and that many entries of one kind.
 ghost use Rattle.std.specs.Prelude.{ℕ, List};
-ghost use Rattle.sheets.specs.Checks.{Tells, bare};
+ghost use Rattle.sheets.specs.Checks.{ComesTo, bare};
 ghost use Rattle.sheets.specs.Contents.{Item, fit_of, key_of, sector_of};
 ghost use Rattle.sheets.specs.Spots.{Spot};
 ghost use Rattle.sheets.specs.Readings.{Reading, section, times};
@@ -26,7 +26,7 @@ pub(crate) trait Entry: Sized {
 
     // The next words have to be those of an entry of this kind, in a sheet of `end` bytes.
     fn check(words: &mut Reader, end: usize) -> Result<(), Fault>
-        ensures { Tells (bare (form end (ahead words.old))) result (ahead words.new) };
+        ensures { ComesTo (bare (form end (ahead words.old))) result (ahead words.new) };
 }
 
 impl Entry for FitEntry {
@@ -106,7 +106,7 @@ pub(crate) fn section_of<E: Entry + Drop>(reader: &mut SheetReader) -> Result<Ve
 
 // A section of any kind of entry: a count, and that many entries.
 pub(crate) fn check_section<E: Entry>(words: &mut Reader, end: usize) -> Result<(), Fault>
-    ensures { Tells (bare (section E.Entry.form end (ahead words.old))) result (ahead words.new) }
+    ensures { ComesTo (bare (section E.Entry.form end (ahead words.old))) result (ahead words.new) }
 {
     let count = check_count(words, end)?;
     for _ in 0..count {

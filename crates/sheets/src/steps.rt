@@ -1,6 +1,6 @@
 // The steps of reading and of checking a sheet: a word, a token, and what a token stands for.
 ghost use Rattle.std.specs.Prelude.{◌≡◌, length};
-ghost use Rattle.sheets.specs.Checks.{Tells, bare};
+ghost use Rattle.sheets.specs.Checks.{ComesTo, bare};
 ghost use Rattle.sheets.specs.Forms.{count_of};
 ghost use Rattle.sheets.specs.Readings.{word_as};
 ghost use Rattle.sheets.specs.Spots.{spots};
@@ -65,7 +65,7 @@ impl<'a> SheetReader<'a> {
 
 // The next word has to stand for a value of its kind.
 pub(crate) fn check_value<T: Value>(words: &mut Reader, end: usize) -> Result<(), Fault>
-    ensures { Tells (bare (word_as T.Value.form end (ahead words.old))) result (ahead words.new) }
+    ensures { ComesTo (bare (word_as T.Value.form end (ahead words.old))) result (ahead words.new) }
 {
     let word = next_word(words).ok_or(Fault::bad_word(end))?;
     if !T::stands(word.part) {
@@ -76,7 +76,7 @@ pub(crate) fn check_value<T: Value>(words: &mut Reader, end: usize) -> Result<()
 
 // The next word has to be a count.
 pub(crate) fn check_count(words: &mut Reader, end: usize) -> Result<u8, Fault>
-    ensures { Tells (word_as count_of end (ahead words.old)) result (ahead words.new) }
+    ensures { ComesTo (word_as count_of end (ahead words.old)) result (ahead words.new) }
 {
     let word = next_word(words).ok_or(Fault::bad_word(end))?;
     count_value(word.part).ok_or(Fault::bad_word(word.place))

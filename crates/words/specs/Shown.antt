@@ -11,8 +11,8 @@ abbrev pub digits_of : ℕ → List ℕ
 digits_of b = digit (b / 16) ∷ digit (b % 16) ∷ []
 
 -- the two digits of a byte after a space
-abbrev pub spaced : ℕ → List ℕ
-spaced b = codes " " ++ digits_of b
+abbrev pub space_and_digits : ℕ → List ℕ
+space_and_digits b = codes " " ++ digits_of b
 
 -- a printable character of ASCII, ! to ~, as itself, and any other byte as its two digits in angle brackets
 abbrev pub shown : ℕ → List ℕ

@@ -1,6 +1,6 @@
 // Words and bytes as text for a report.
 ghost use Rattle.std.specs.Prelude.{Some, flat_map};
-ghost use Rattle.words.specs.Shown.{digits_of, spaced, shown, misread};
+ghost use Rattle.words.specs.Shown.{digits_of, space_and_digits, shown, misread};
 
 use crate::Word;
 use std::fmt;
@@ -84,7 +84,7 @@ impl fmt::Display for Digits<'_> {
 pub struct Spaced<'a>(pub &'a [u8]);
 
 impl fmt::Display for Spaced<'_> {
-    ghost output = { λ s. Some (flat_map spaced s.0.now) };
+    ghost output = { λ s. Some (flat_map space_and_digits s.0.now) };
 
     fn fmt<W: fmt::Write>(&self, f: &mut fmt::Formatter<W>) -> fmt::Result {
         for b in self.0 {
