@@ -30,6 +30,10 @@ extern "C" {
  * Answers 0, or the first of 5, 7 and 11 whose condition holds, tried in this order. On any answer but 0 the bytes are as they
  * were.
  *
+ * Seal no two sectors under one key, name and number: who has both learns the exclusive or of their bytes. An end that is made again
+ * with the same key and name, as after a power cut, repeats its numbers unless its first number was never reached and lies above
+ * every number that was drawn before.
+ *
  * The sector is worked in counter mode. A wrong key, name or number is not found out: the answer is 0, and the bytes are
  * opened wrongly. Opening a sector twice gives the sealed bytes again.
  *
@@ -39,7 +43,7 @@ extern "C" {
  *   - the two do not overlap, and nobody else writes to either during the call.
  *
  * The function keeps nothing from call to call and allocates nothing, and several threads may call it at once. It does not clear
- * the stack that it used.
+ * the stack that it used: copies of the key may stay there.
  */
 uint32_t link_display_open(uint32_t letter, const uint8_t *key, size_t key_len, uint16_t name, uint64_t number,
                            uint8_t *bytes, size_t bytes_len);

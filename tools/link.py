@@ -1,6 +1,6 @@
 #!/usr/bin/env python3
-"""What the program `link` must print, worked out apart from the Rattle sources (AES and SM4 by Python's cryptography)."""
-from expected import sealed
+"""What the program `link` must print, worked out apart from the Rattle sources (AES and SM4 by commission.py)."""
+from commission import worked
 from towers import RINGS, accepted, fit
 
 KEY_A = bytes.fromhex("2b7e151628aed2a6abf7158809cf4f3c")
@@ -70,7 +70,7 @@ def work(end, name, number, data):
         return refused(9), None
     if not 1 <= len(data) <= 4096:
         return refused(11), None
-    out = sealed(*end.key, name, number, data)[1]
+    out = worked(*end.key, name, number, data)
     return out.hex().upper(), out
 
 

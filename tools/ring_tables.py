@@ -2,8 +2,10 @@
 """The tables of the rings, worked out apart from the crate `rings`: a polynomial is a set of exponents.
 
 Prints what crates/ring_tables/stdout holds. Shares no code and no table with the Rattle sources."""
+from functools import cache
 
 
+@cache
 def terms(code):
     return frozenset(i for i in range(16) if code // 2**i % 2)
 
@@ -56,6 +58,7 @@ def inverses(ring):
         for b in range(size):
             if ring.product(a, b) == 1:
                 found[a] = b
+                break
     return found
 
 

@@ -2,7 +2,10 @@
 """Fits, trails and boxes, worked out apart from the Rattle sources: prints what crates/towers_tests/stdout holds.
 
 All maps of bytes that carry a tower field into the octic's ring are found by brute force: a generator of the tower's
-multiplicative group is sent to every element of the octic's field, and the map is kept if it keeps sums."""
+multiplicative group is sent to every element of the octic's field, and the map is kept if it keeps sums. Tables of products are
+tuples, so that each is worked out once."""
+from functools import cache
+
 def cmul(a, b):
     r = 0
     while b:
@@ -16,23 +19,27 @@ def cmod(a, m):
         a ^= m << (a.bit_length() - d)
     return a
 
-def poly_ring(m):
-    n = 1 << (m.bit_length() - 1)
-    return [[cmod(cmul(a, b), m) for b in range(n)] for a in range(n)]
+def table(n, times):
+    return tuple(tuple(times(a, b) for b in range(n)) for a in range(n))
 
+@cache
+def poly_ring(m):
+    return table(1 << (m.bit_length() - 1), lambda a, b: cmod(cmul(a, b), m))
+
+@cache
 def pairing(below, c):
     n = len(below); w = n.bit_length() - 1
-    t = [[0] * (n * n) for _ in range(n * n)]
-    for a in range(n * n):
-        for b in range(n * n):
-            a1, a0, b1, b0 = a >> w, a & (n - 1), b >> w, b & (n - 1)
-            hh = below[a1][b1]
-            t[a][b] = ((hh ^ below[a1][b0] ^ below[a0][b1]) << w) | (below[a0][b0] ^ below[c][hh])
-    return t
+    def times(a, b):
+        a1, a0, b1, b0 = a >> w, a & (n - 1), b >> w, b & (n - 1)
+        hh = below[a1][b1]
+        return ((hh ^ below[a1][b0] ^ below[a0][b1]) << w) | (below[a0][b0] ^ below[c][hh])
+    return table(n * n, times)
 
+@cache
 def is_field(t):
     return all(1 in t[a] for a in range(1, len(t)))
 
+@cache
 def accepted():
     return [o for o in range(256, 512) if all(cmod(o, d) != 0 for d in range(2, 32))]
 
@@ -53,16 +60,18 @@ def inverse_columns(cols):
     assert len(img) == 256
     return [img[1 << j] for j in range(8)]
 
+@cache
+def generators(t):
+    return [h for h in range(2, 256) if len(powers(t, h)) == 255]
+
 def lawful(ring, oct_table):
     """every lawful pair (c, columns)"""
     found = []
-    prims = [h for h in range(2, 256) if len(powers(oct_table, h)) == 255]
     for c in range(16):
         t = pairing(ring, c)
         if not is_field(t): continue
-        g = next(a for a in range(2, 256) if len(powers(t, a)) == 255)
-        seq = powers(t, g)
-        for h in prims:
+        seq = powers(t, generators(t)[0])
+        for h in generators(oct_table):
             m = [0] * 256; x = 1
             for e in seq:
                 m[e] = x; x = oct_table[x][h]
@@ -70,6 +79,7 @@ def lawful(ring, oct_table):
                 found.append((c, [m[1 << j] for j in range(8)]))
     return found
 
+@cache
 def fit(ring, o):
     best = None; count = 0
     for c, cols in lawful(ring, poly_ring(o)):
@@ -99,10 +109,10 @@ def affine_s(b):
 def inverse(octic, b):
     return octic[b].index(1) if b else 0
 
-def exchanged(table):
+def exchanged(below):
     """the same field with bits 1 and 3 of each code exchanged"""
     turn = lambda a: a & 5 | (a >> 1 & 1) << 3 | (a >> 3 & 1) << 1
-    return [[turn(table[turn(a)][turn(b)]) for b in range(16)] for a in range(16)]
+    return table(16, lambda a, b: turn(below[turn(a)][turn(b)]))
 
 RINGS = {'test': exchanged(poly_ring(0x13)), '13': poly_ring(0x13), '19': poly_ring(0x19), '1F': poly_ring(0x1f), '4:2': pairing(poly_ring(7), 2), '4:3': pairing(poly_ring(7), 3)}
 

@@ -10,8 +10,6 @@ const LIMIT: u64 = 16_385;
 fn main(rt: HostRuntime) -> anyhow::Result<()> {
     let mut sheet = Vec::new(rt.alloc());
     rt.stdin().take(LIMIT).read_to_end(&mut sheet)?;
-    for line in run(rt.alloc(), &sheet)? {
-        println!(rt; "{line}")?;
-    }
+    print!(rt; "{}", run(rt.alloc(), &sheet)?)?;
     Ok(())
 }

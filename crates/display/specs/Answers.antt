@@ -8,7 +8,7 @@ use Rattle.ends.specs.Display.{Opened, AsEnd}
 abbrev pub code_of : Result (Unit {0}) Refusal → ℕ
 code_of = answer_of
 
--- n is the code of the one answer to the sector, and the bytes are left as it says; an end over the display's ring answers and leaves the same
+-- n is the code of the one answer, and the bytes are left as it says; an end over the display's ring answers and leaves the same
 pub record Displayed (letter : ℕ) (key : List ℕ) (name number : ℕ) (old : List ℕ) (n : ℕ) (new : List ℕ) : Type 0 where
   pub answer : Result (Unit {0}) Refusal
   pub code : n ≡ code_of answer

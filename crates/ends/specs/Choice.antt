@@ -10,7 +10,8 @@ use Rattle.ends.specs.Model.{Blocks, refuse, unsized, block_cipher, keyed}
 
 -- an unknown letter or another octic, and else what comes after
 abbrev pub choice_refusal : ℕ → ℕ → Option Refusal → Option Refusal
-choice_refusal octic letter rest = refuse (not (is_some (cipher_for letter))) UnknownLetter (refuse (not (suits octic (cipher_for letter))) OtherOctic rest)
+choice_refusal octic letter rest =
+    refuse (not (is_some (cipher_for letter))) UnknownLetter (refuse (not (suits octic (cipher_for letter))) OtherOctic rest)
 
 -- the box of the letter's cipher, whose octic is the fitted one, or the refusal
 abbrev pub Chosen : ℕ → ℕ → Result Boxed Refusal → Type 0
@@ -19,11 +20,13 @@ Chosen octic letter (Err e) = choice_refusal octic letter None ≡ Some e
 
 -- an unknown letter, another octic, a key or a work area of the wrong length
 abbrev pub load_refusal : ℕ → ℕ → List ℕ → List ℕ → Option Refusal
-load_refusal octic letter key work = choice_refusal octic letter (refuse (not (length key == 16)) KeyLength (refuse (nat_lt (length work) 176) SmallWork None))
+load_refusal octic letter key work =
+    choice_refusal octic letter (refuse (not (length key == 16)) KeyLength (refuse (nat_lt (length work) 176) SmallWork None))
 
 -- a key that is loaded is the letter's cipher under that key
 abbrev pub Loads : ℕ → ℕ → List ℕ → List ℕ → Result Loaded Refusal → Type 0
-Loads octic letter key work (Ok l) = (load_refusal octic letter key work ≡ None) × (Some (block_cipher l) ≡ keyed (cipher_for letter) key)
+Loads octic letter key work (Ok l) =
+    (load_refusal octic letter key work ≡ None) × (Some (block_cipher l) ≡ keyed (cipher_for letter) key)
 Loads octic letter key work (Err e) = load_refusal octic letter key work ≡ Some e
 
 -- the counter mode in a sector, or the refusal of its length, which leaves the bytes as they were

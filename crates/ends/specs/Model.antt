@@ -55,7 +55,8 @@ blocks_in (Some l) = Some (block_cipher l)
 
 -- the model of an end over a ring of a width and with a product
 abbrev pub model : {R : Type 0} → ℕ → (R → ℕ → ℕ → ℕ) → End R → Model
-model bits mul e = record { bits = bits; times = mul e.ring; name = e.name; next = e.next; fitted = fit_in e.fitted; loaded = blocks_in e.loaded }
+model bits mul e =
+    record { bits = bits; times = mul e.ring; name = e.name; next = e.next; fitted = fit_in e.fitted; loaded = blocks_in e.loaded }
 
 -- an end just made: no fit and no key
 abbrev pub made : ℕ → (ℕ → ℕ → ℕ) → ℕ → ℕ → Model
@@ -103,11 +104,14 @@ suited (Some f) letter = suits f.octic (cipher_for letter)
 
 -- no fit, an unknown letter or another octic, and else what comes after
 abbrev pub letter_refusal : Option Fit → ℕ → Option Refusal → Option Refusal
-letter_refusal f letter rest = refuse (not (is_some f)) NoFit (refuse (not (is_some (cipher_for letter))) UnknownLetter (refuse (not (suited f letter)) OtherOctic rest))
+letter_refusal f letter rest =
+    refuse (not (is_some f)) NoFit
+    (refuse (not (is_some (cipher_for letter))) UnknownLetter (refuse (not (suited f letter)) OtherOctic rest))
 
 -- key: no fit, an unknown letter, another octic, a key of the wrong length, or a work area that is too small
 abbrev pub key_refusal : Model → ℕ → List ℕ → List ℕ → Option Refusal
-key_refusal m letter key work = letter_refusal m.fitted letter (refuse (not (length key == 16)) KeyLength (refuse (nat_lt (length work) 176) SmallWork None))
+key_refusal m letter key work =
+    letter_refusal m.fitted letter (refuse (not (length key == 16)) KeyLength (refuse (nat_lt (length work) 176) SmallWork None))
 
 -- draw: the next number is the largest of 64 bits
 abbrev pub draw_refusal : Model → Option Refusal
@@ -119,7 +123,8 @@ unsized bs = length bs == 0 || nat_lt 4096 (length bs)
 
 -- seal: no key, another name, or a length out of range
 abbrev pub seal_refusal : Model → Ticket → List ℕ → Option Refusal
-seal_refusal m t bs = refuse (not (is_some m.loaded)) NoKey (refuse (not (t.name == m.name)) OtherName (refuse (unsized bs) SectorLength None))
+seal_refusal m t bs =
+    refuse (not (is_some m.loaded)) NoKey (refuse (not (t.name == m.name)) OtherName (refuse (unsized bs) SectorLength None))
 
 -- open: no key, or a length out of range; any name will do
 abbrev pub open_refusal : Model → List ℕ → Option Refusal
@@ -155,7 +160,7 @@ abbrev pub boxed_by : Option Cipher → ℕ → Option ℕ
 boxed_by None x = None
 boxed_by (Some c) x = Some (box_of c x)
 
--- the call is accepted just if no refusal's condition holds, and else refused by the first; a refusal leaves the bytes as they were, and key leaves zeros in any case
+-- accepted just if no refusal's condition holds, else refused by the first; a refusal leaves the bytes, key zeros in any case
 abbrev pub Answers : Model → Call → Type 0
 Answers m (fitting o (Ok a)) = Sixteen m.bits m.times × Accepted o
 Answers m (fitting o (Err e)) = Refuses m.bits m.times o e
@@ -192,7 +197,7 @@ pub record Sector : Type 0 where
   pub owner : Ticket
   pub bytes : List ℕ
 
--- what a call did, as it tells itself: an accepted fit; what the end holds from then on; the ticket given; the ticket spent; an accepted seal
+-- what a call did: an accepted fit; what the end holds from then on; the ticket given; the ticket spent; an accepted seal
 pub record Effect : Type 0 where
   pub refits : Option Refit
   pub loads : Option (Option Held)

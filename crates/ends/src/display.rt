@@ -1,11 +1,12 @@
 // One sector opened as an end over the display's ring would, by fits that are known beforehand. The parameters stand side by side as
 // the function for C has them.
-ghost use Rattle.std.specs.Prelude.{◌≡◌, replicate};
+ghost use Rattle.std.specs.Prelude.{◌≡◌};
 ghost use Rattle.display_ring.specs.Display.{display_mul};
 ghost use Rattle.towers.specs.Keeps.{Keeps};
 ghost use Rattle.ends.specs.Choice.{Loads};
 ghost use Rattle.ends.specs.Display.{Admitted, Opened, AsEnd, EachOpeningAgrees};
 ghost use Rattle.ends.specs.Letters.{octic_of};
+ghost use Rattle.ends.specs.Work.{Zero};
 
 use crate::fitted::{Fitted, Loaded};
 use crate::load::octic_of;
@@ -49,12 +50,17 @@ fn known_fit(cipher: Cipher) -> Fitted
     Fitted { pair, inverses }
 }
 
-// Loads a key by way of a work area of its own, which is zero afterwards.
-fn load_apart(fitted: &Fitted, letter: char, key: &[u8]) -> Result<Loaded, Refusal>
-    ensures { Loads fitted.now.inverses.octic letter key.now (replicate 176 0) result }
+// Loads a key by way of a lent work area, all of which is zero afterwards, whichever way this ends.
+fn load_apart(
+    fitted: &Fitted,
+    letter: char,
+    key: &[u8],
+    work: &mut [u8; 176],
+) -> Result<Loaded, Refusal>
+    ensures loads { Loads fitted.now.inverses.octic letter key.now work.old result }
+    ensures cleared { Zero work.new }
 {
-    let mut work = [0; 176];
-    let guard = Work { bytes: &mut work };
+    let guard = Work { bytes: work };
     fitted.load(letter, key, guard.bytes)
 }
 
@@ -70,7 +76,8 @@ fn open_by_known(
 {
     let letter = char::from_u32(letter).ok_or(Refusal::UnknownLetter)?;
     let cipher = admit(letter, key, bytes)?;
-    let loaded = load_apart(&known_fit(cipher), letter, key)?;
+    let mut work = [0; 176];
+    let loaded = load_apart(&known_fit(cipher), letter, key, &mut work)?;
     loaded.work(name, number, bytes)
 }
 
@@ -79,8 +86,8 @@ fn each_opening_agrees()
     ensures { EachOpeningAgrees }
 {}
 
-// Opens a sector as an end over the display's ring would that is fitted to the letter's octic and given the key. The letter is a
-// character's code.
+/// Opens a sector of 1 to 4,096 bytes as an end over the display's ring would that is fitted to the letter's octic and given the key of
+/// 16 bytes. The letter is a character's code.
 pub fn open_at_display(
     letter: u32,
     key: &[u8],

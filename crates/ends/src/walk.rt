@@ -12,8 +12,8 @@ use std::array;
 use towers::pair::Pair;
 use towers::trail::trail_of;
 
-// The inverses of all bytes, each by its trail. The three facts stay a `requires`: a ghost
-// field takes only facts with one proof, and a pair that is kept brings its maps.
+// The inverses of all bytes, each by its trail. The three facts stay a `requires`: that a pair is kept brings its maps, so a
+// ghost field could hold only that there is such a fact.
 pub(super) fn inverses_by<R: Ring>(ring: &R, octic: u16, pair: &Pair) -> Inverses
     requires field { Sixteen R.Ring.WIDTH (R.Ring.mul ring.now) }
     requires accepted { Accepted octic }

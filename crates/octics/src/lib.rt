@@ -42,10 +42,11 @@ fn first_divisor(octic: u16) -> Option<u16>
     let mut found = None;
     'degrees: for degree in 1..5 {
         'divisors: for divisor in power(degree)..power(degree + 1) {
-            if rest_of(octic, divisor, degree) == 0 {
-                found = Some(divisor);
-                break 'degrees;
+            if rest_of(octic, divisor, degree) != 0 {
+                continue 'divisors;
             }
+            found = Some(divisor);
+            break 'degrees;
         }
     }
     found

@@ -1,7 +1,7 @@
 -- The pairing over a ring: a code is r1 Y + r0, with r1 in its high half and r0 in its low half, and Y Y = Y + c.
 -- Assumes nothing.
-use Rattle.std.specs.Prelude.{◌≡◌, ℕ, ◌+◌, ◌*◌, ◌/◌, ◌%◌, ◌^◌, cond, bit_and, bit_xor, nat_lt}
-use Rattle.rings.specs.Laws.{Invertible}
+use Rattle.std.specs.Prelude.{◌≡◌, ℕ, ◌+◌, ◌*◌, ◌/◌, ◌%◌, ◌^◌, ◌<◌, ◌≤◌, Option, Some, None, cond, bit_and, bit_xor, nat_lt}
+use Rattle.rings.specs.Laws.{Inverse, NoInverse, Invertible, Inverts}
 
 -- the product of the ring below, of width w, on the low bits of two numbers
 abbrev pub lows : ℕ → (ℕ → ℕ → ℕ) → ℕ → ℕ → ℕ
@@ -53,3 +53,14 @@ pub record Decides (w one : ℕ) (mul : ℕ → ℕ → ℕ) (c a n : ℕ) : Typ
 pub record Normed (w one : ℕ) (mul : ℕ → ℕ → ℕ) (c a n : ℕ) : Type 0 where
   pub value : n ≡ pairing_norm w mul c a
   pub decides : Decides w one mul c a n
+
+-- r is the code with r1 m in its high half and (r0 + r1) m in its low half, where m is the inverse below of the norm of a, or nothing
+-- where the norm has no inverse below
+abbrev pub ByHalves : ℕ → ℕ → (ℕ → ℕ → ℕ) → ℕ → ℕ → Option ℕ → Type 0
+ByHalves w one mul c a None = NoInverse w one mul (norm w mul c a)
+ByHalves w one mul c a (Some b) = (m : ℕ) × Inverse w one mul (norm w mul c a) m × (b ≡ pair_inverse w mul a m)
+
+-- `inverse` answers r of the code a: over a ring of width 2 or 4 by halves, and over width 8 what the ring below answers
+pub record FromBelow (w one : ℕ) (mul : ℕ → ℕ → ℕ) (c a : ℕ) (r : Option ℕ) : Type 0 where
+  pub by_halves : w < 8 → ByHalves w one mul c a r
+  pub same : 8 ≤ w → Inverts w one mul a r

@@ -1,7 +1,7 @@
 // The pairing over a ring: a code holds r1 in its high half and r0 in its low half, and means r1 Y + r0, where Y Y = Y + c.
 ghost use Rattle.std.specs.Prelude.{◌≡◌, MatchOption, ℕ, ◌+◌, ◌*◌, ◌/◌, ◌%◌, ◌^◌, ◌<◌, ◌≤◌};
 ghost use Rattle.rings.specs.Laws.{Inverts};
-ghost use Rattle.rings.specs.Pairing.{lows, schoolbook, form, by_norm, norm as norm_of, pairing_bits, pairing_mul, Normed};
+ghost use Rattle.rings.specs.Pairing.{lows, schoolbook, form, by_norm, norm as norm_of, pairing_bits, pairing_mul, Normed, FromBelow};
 ghost use Rattle.rings.specs.PairCode.{pairing_laws};
 ghost use Rattle.std.proofs.Common.{rules};
 
@@ -67,9 +67,12 @@ impl<'a, R: Ring> Lent<'a, R> {
         }
     }
 
-    // The code whose product with `a` is 1, or none where there is no such code.
+    /// The code whose product with `a` is 1, or none where there is no such code. Over width 2 or 4 it has r1 m in its high half and
+    /// (r0 + r1) m in its low half, where m is the inverse below of the norm of `a`; over width 8 it is the inverse below.
     pub fn inverse(&self, a: u8) -> Option<u8>
-        ensures { Inverts (pairing_bits R.Ring.WIDTH) 1 (pairing_mul R.Ring.WIDTH (R.Ring.mul self.now.below.now) self.now.constant) (a % 2 ^ pairing_bits R.Ring.WIDTH) result }
+        ensures inverse { Inverts (pairing_bits R.Ring.WIDTH) 1 (pairing_mul R.Ring.WIDTH (R.Ring.mul self.now.below.now) self.now.constant) (a % 2 ^ pairing_bits R.Ring.WIDTH) result }
+        ensures halves { let w = R.Ring.WIDTH in
+            FromBelow w 1 (R.Ring.mul self.now.below.now) self.now.constant (a % 2 ^ pairing_bits w) result }
     {
         match self.halves() {
             Some(halves) => halves.inverse(a),
@@ -95,7 +98,9 @@ impl<R: Ring> Halves<'_, R> {
     }
 
     fn inverse(&self, a: u8) -> Option<u8>
-        ensures { Inverts (pairing_bits R.Ring.WIDTH) 1 (pairing_mul R.Ring.WIDTH (R.Ring.mul self.now.below.now) self.now.constant) (a % 2 ^ pairing_bits R.Ring.WIDTH) result }
+        ensures inverse { Inverts (pairing_bits R.Ring.WIDTH) 1 (pairing_mul R.Ring.WIDTH (R.Ring.mul self.now.below.now) self.now.constant) (a % 2 ^ pairing_bits R.Ring.WIDTH) result }
+        ensures halves { let w = R.Ring.WIDTH in
+            FromBelow w 1 (R.Ring.mul self.now.below.now) self.now.constant (a % 2 ^ pairing_bits w) result }
     {
         let m = self.below.inverse(self.norm(a))?;
         Some(self.divide(a, m))
@@ -185,7 +190,12 @@ impl<R: Ring> Ring for Pairing<R> {
         self.lend().product(a, b)
     }
 
-    fn inverse(&self, a: u8) -> Option<u8> {
+    /// The inverse by halves, as of the pairing lent. (The first clause is the trait's: a method with clauses of its own has those alone.)
+    fn inverse(&self, a: u8) -> Option<u8>
+        ensures inverse { Inverts (pairing_bits R.Ring.WIDTH) 1 (pairing_mul R.Ring.WIDTH (R.Ring.mul self.now.below) self.now.constant) (a % 2 ^ pairing_bits R.Ring.WIDTH) result }
+        ensures halves { let w = R.Ring.WIDTH in
+            FromBelow w 1 (R.Ring.mul self.now.below) self.now.constant (a % 2 ^ pairing_bits w) result }
+    {
         self.lend().inverse(a)
     }
 }

@@ -1,13 +1,14 @@
 -- The lines of a sheet, byte for byte. Assumes nothing.
-use Rattle.std.specs.Prelude.{ℕ, Bool, true, false, List, [], ◌∷◌, ◌++◌, Ok, Err, codes, decimal, Result}
+use Rattle.std.specs.Prelude.{ℕ, Bool, true, false, List, [], ◌∷◌, ◌++◌, Ok, Err, codes, decimal, vec_items}
 pub use Rattle.refusals.specs.Numbers.{answer_of}
 use Rattle.refusals.specs.Numbers.{number_of}
-use Rattle.refusals.specs.declared.Refusal.{Refusal}
 use Rattle.sheets.specs.Numbers.{number_of as sheet_number_of}
 use Rattle.watch.specs.declared.side.Side.{Side}
 use Rattle.watch.specs.declared.side.Side.TheVariants.{First, Second}
 use Rattle.runs.specs.declared.line.Line.{Line}
 use Rattle.runs.specs.declared.line.Line.TheVariants.{Bad, Fit, Key, Sector}
+use Rattle.runs.specs.declared.printout.Printout.{Printout}
+use Rattle.runs.specs.declared.printout.Printout.TheVariants.{One, Each}
 
 -- the first end is H and the second D
 abbrev pub letter_of : Side → List ℕ
@@ -31,3 +32,12 @@ text_of (Fit s r) = spaced (codes "F") (letter_of s ∷ decimal (answer_of r) �
 text_of (Key s r) = spaced (codes "K") (letter_of s ∷ decimal (answer_of r) ∷ [])
 text_of (Sector s (Ok p)) = spaced (codes "S") (letter_of s ∷ codes "0" ∷ decimal p.number ∷ decimal p.bearing ∷ mark_of p.same ∷ [])
 text_of (Sector s (Err e)) = spaced (codes "S") (letter_of s ∷ decimal (number_of e) ∷ [])
+
+-- a line, and the newline that ends it
+abbrev pub with_newline : Line → List ℕ
+with_newline l = text_of l ++ (10 ∷ [])
+
+-- the lines of a printout
+abbrev pub lines_of : Printout → List Line
+lines_of (One l) = l ∷ []
+lines_of (Each ls) = vec_items ls

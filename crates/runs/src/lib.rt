@@ -4,4 +4,5 @@
 pub mod bearing;
 pub mod line;
 mod perform;
+pub mod printout;
 pub mod run;

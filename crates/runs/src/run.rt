@@ -1,12 +1,14 @@
 // Runs a sheet at two ends.
-ghost use Rattle.std.specs.Prelude.{◌≡◌, map, IfOk, OnOk};
+ghost use Rattle.std.specs.Prelude.{◌≡◌, map, IfErr, IfOk, IsOk, OnOk};
 ghost use Rattle.watch.specs.Watched.{kind, world};
 ghost use Rattle.sheets.specs.Contents.{contents};
 ghost use Rattle.sheets.specs.Sheets.{sheet_of};
+ghost use Rattle.runs.specs.Lines.{lines_of};
 ghost use Rattle.runs.specs.Printed.{Extended, Ran, Commissions};
 
 use crate::line::Line;
 use crate::perform::Perform;
+use crate::printout::Printout;
 use display_ring::display_ring;
 use rings::Ring;
 use rings::poly::Quartic;
@@ -45,13 +47,18 @@ fn perform_sheet(heap: Global, sheet: &Sheet) -> Result<Vec<Line>, AllocError>
     Ok(lines)
 }
 
-// What a sheet prints: a line for each entry, or one line if the sheet is bad.
-pub fn run(heap: Global, sheet: &[u8]) -> Result<Vec<Line>, AllocError>
-    ensures { IfOk result (λ v. Commissions (sheet_of sheet.now) v.items) }
+/// Runs a sheet, given as its bytes: reads it, and lets a good one's entries make their calls, in their order, through a watch over the
+/// two ends. Answers what the sheet prints: a line for each entry, or the one line of a bad sheet, which makes no call.
+///
+/// Memory for the entries, their lines and a copy of each sector comes from `heap`; an `AllocError` says that there is none, and only a
+/// good sheet gets it.
+pub fn run(heap: Global, sheet: &[u8]) -> Result<Printout, AllocError>
+    ensures prints { IfOk result (λ p. Commissions (sheet_of sheet.now) (lines_of p)) }
+    ensures memory { IfErr result (λ _. IsOk (sheet_of sheet.now)) }
 {
     match read_sheet(heap, sheet) {
-        Ok(entries) => perform_sheet(heap, &entries),
-        Err(ReadError::Bad(fault)) => Ok(vec![in heap; Line::Bad(fault)]?),
+        Ok(entries) => Ok(Printout::Each(perform_sheet(heap, &entries)?)),
+        Err(ReadError::Bad(fault)) => Ok(Printout::One(Line::Bad(fault))),
         Err(ReadError::NoMemory) => Err(AllocError),
     }
 }

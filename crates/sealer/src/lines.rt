@@ -47,7 +47,7 @@ fn seal<B: Substitute>(rt: &HostRuntime, boxes: &B, mut request: Request) -> Res
 }
 
 // Seals the sector of a line.
-pub(crate) fn print_sealed(rt: &HostRuntime, line: &str) -> Result<(), LineError> {
+pub(crate) fn print_sealed(rt: &HostRuntime, line: &[u8]) -> Result<(), LineError> {
     let request = read(rt.alloc(), line)?;
     match request.cipher {
         Cipher::Aes => seal(rt, &Direct(BoxA), request),

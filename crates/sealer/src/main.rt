@@ -6,10 +6,13 @@ mod lines;
 mod request;
 
 use request::LineError;
+use std::io::{BufRead, BufReader};
 
 fn main(rt: HostRuntime) -> anyhow::Result<()> {
-    for (place, line) in (1..=u64::MAX).zip(rt.lines(rt.alloc())) {
-        match lines::print_sealed(&rt, line?.as_str()) {
+    let input = BufReader::new(rt.alloc(), rt.stdin())?;
+    for (place, line) in (1..=u64::MAX).zip(input.split(rt.alloc(), b'\n')) {
+        let line = line?;
+        match lines::print_sealed(&rt, &line) {
             Ok(()) => {}
             Err(LineError::Bad(part)) => println!(rt; "line {place}: bad {part}")?,
             Err(LineError::Other(error)) => return Err(error),

@@ -64,22 +64,23 @@ impl From<io::Error> for LineError {
     }
 }
 
-fn letter(word: &str) -> Result<Cipher, Part> {
-    let letter = word.parse::<char>().map_err(|_| Part::Letter)?;
-    Cipher::try_from(letter).map_err(|_| Part::Letter)
+fn letter(word: &[u8]) -> Result<Cipher, Part> {
+    let [letter] = word else {
+        return Err(Part::Letter);
+    };
+    Cipher::try_from(*letter as char).map_err(|_| Part::Letter)
 }
 
 // The bytes in a word of two digits each.
-fn bytes(heap: Global, word: &str, part: Part) -> Result<Vec<u8>, LineError> {
-    word.as_bytes()
-        .chunks(2)
+fn bytes(heap: Global, word: &[u8], part: Part) -> Result<Vec<u8>, LineError> {
+    word.chunks(2)
         .map(|digits| -> Result<u8, LineError> { Ok(hex_byte(digits).ok_or(part)?) })
         .try_collect(heap)
 }
 
 // The same for a word of so many bytes, with no heap.
-fn array<const N: usize>(word: &str, part: Part) -> Result<[u8; N], Part> {
-    let (pairs, []) = word.as_bytes().as_chunks::<2>() else {
+fn array<const N: usize>(word: &[u8], part: Part) -> Result<[u8; N], Part> {
+    let (pairs, []) = word.as_chunks::<2>() else {
         return Err(part);
     };
     if pairs.len() != N {
@@ -92,24 +93,24 @@ fn array<const N: usize>(word: &str, part: Part) -> Result<[u8; N], Part> {
     Ok(array)
 }
 
-// Reads a line, or says what is bad in it.
-pub(crate) fn read(heap: Global, line: &str) -> Result<Request, LineError> {
-    let mut words = line.split_whitespace();
+// Reads the words of a line, or says what is bad in it.
+pub(crate) fn read(heap: Global, line: &[u8]) -> Result<Request, LineError> {
+    let mut reader = words::over(line);
     let (Some(cipher), Some(key), Some(name), Some(number), Some(sector), None) = (
-        words.next(),
-        words.next(),
-        words.next(),
-        words.next(),
-        words.next(),
-        words.next(),
+        reader.word(),
+        reader.word(),
+        reader.word(),
+        reader.word(),
+        reader.word(),
+        reader.word(),
     ) else {
         return Err(LineError::Bad(Part::Words));
     };
     Ok(Request {
-        cipher: letter(cipher)?,
-        key: array(key, Part::Key)?,
-        name: u16::from_be_bytes(array(name, Part::Name)?),
-        number: u64::from_be_bytes(array(number, Part::Number)?),
-        sector: bytes(heap, sector, Part::Sector)?,
+        cipher: letter(cipher.part)?,
+        key: array(key.part, Part::Key)?,
+        name: u16::from_be_bytes(array(name.part, Part::Name)?),
+        number: u64::from_be_bytes(array(number.part, Part::Number)?),
+        sector: bytes(heap, sector.part, Part::Sector)?,
     })
 }

@@ -1,9 +1,11 @@
-// Tests of the reader of sheets on examples.
+// Tests of the check, the reader and the run of sheets on examples.
 #![tactic(auto)]
 
 #[cfg(test)]
 mod tests {
     use ciphers::keys::Cipher;
+    use runs::run::run;
+    use sheets::check::check_sheet;
     use sheets::faults::ReadError;
     use sheets::read::read_sheet;
     use std::alloc::{AllocError, Global};
@@ -52,10 +54,16 @@ mod tests {
         }
     }
 
+    // What a check of a sheet answers.
+    fn checked(sheet: &[u8]) -> Result<(), (u8, usize)> {
+        check_sheet(sheet).map_err(|fault| (fault.refusal.number(), fault.place))
+    }
+
     #[test]
     fn examples(rt: HostRuntime) -> Result<(), Fail> {
         for (sheet, expected) in SHEETS {
             assert_eq!(rt; answer(rt.alloc(), sheet.as_bytes())?, expected, "{sheet}");
+            assert_eq!(rt; checked(sheet.as_bytes()), expected.map(|_| ()), "{sheet}");
         }
         Ok(())
     }
@@ -67,6 +75,8 @@ mod tests {
         sheet[..5].copy_from_slice(b"0 0 0");
         assert_eq!(rt; answer(rt.alloc(), &sheet[..16384])?, Ok(0));
         assert_eq!(rt; answer(rt.alloc(), &sheet)?, Err((13, 16384)));
+        assert_eq!(rt; checked(&sheet[..16384]), Ok(()));
+        assert_eq!(rt; checked(&sheet), Err((13, 16384)));
         Ok(())
     }
 
@@ -77,6 +87,8 @@ mod tests {
         sheet[0..8].copy_from_slice(b"0 0 1 H ");
         assert_eq!(rt; answer(rt.alloc(), &sheet[..520])?, Ok(1));
         assert_eq!(rt; answer(rt.alloc(), &sheet)?, Err((14, 8)));
+        assert_eq!(rt; checked(&sheet[..520]), Ok(()));
+        assert_eq!(rt; checked(&sheet), Err((14, 8)));
         Ok(())
     }
 
@@ -95,6 +107,22 @@ mod tests {
             sheet.sectors[0].side == Side::First
                 && sheet.sectors[0].bytes.as_slice() == [0x41, 0xfe].as_slice()
         );
+        Ok(())
+    }
+
+    // What a sheet prints.
+    fn printed(heap: Global, sheet: &str) -> Result<String, AllocError> {
+        format!(in heap; "{}", run(heap, sheet.as_bytes())?)
+    }
+
+    // Both ends are fitted to 11B and hold the same key, and H sends one byte to D; and a bad sheet prints the line of its refusal.
+    #[test]
+    fn lines(rt: HostRuntime) -> Result<(), Fail> {
+        let small =
+            "2 H 11B D 11B 2 H A 000102030405060708090A0B0C0D0E0F D A 000102030405060708090A0B0C0D0E0F 1 H 41";
+        let text = printed(rt.alloc(), small)?;
+        assert_eq!(rt; text.as_str(), "F H 0\nF D 0\nK H 0\nK D 0\nS H 0 0 0 Y\n");
+        assert_eq!(rt; printed(rt.alloc(), "0 0 x")?.as_str(), "E 14 4\n");
         Ok(())
     }
 }

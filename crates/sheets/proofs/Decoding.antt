@@ -1,8 +1,9 @@
 -- Bytes of two digits each, from the first on. Assumes nothing.
-use Rattle.std.proofs.Common.{◌≡◌, ℕ, zero, suc, ◌+◌, ◌-◌, ◌*◌, ◌/◌, ◌<◌, ◌≤◌, List, [], ◌∷◌, ◌++◌, length, get_or, take, drop, set, Some, None, Option, sym, refl, ap, ◌∙◌, append_assoc, append-nil, add-one, arith, drop_of_length-le, take_all, drop-cons, le-leb}
-use borrow.Author.Tests.{lt-leb}
+use Rattle.std.proofs.Common.{◌≡◌, ℕ, zero, suc, ◌+◌, ◌-◌, ◌*◌, ◌/◌, ◌%◌, ◌<◌, ◌≤◌, List, [], ◌∷◌, ◌++◌, length, get_or, take, drop, set, Some, None, Option, sym, refl, ap, ◌∙◌, append_assoc, append-nil, add-one, arith, drop_of_length-le, take_all, drop-cons, le-leb, inl, inr, Bool, ◌&&◌, is_some}
+use Rattle.std.proofs.lemmas.Bool.{lt-leb, cases_lt}
+use Rattle.std.specs.List.{list_all}
 use Rattle.std.proofs.lemmas.List.{take_more_set}
-use Rattle.words.specs.Hex.{hex_byte}
+use Rattle.words.specs.Hex.{hex_byte, hex_value, two_digits}
 use Rattle.sheets.specs.Forms.{in_front, bytes_of, sector_bytes}
 
 -- more bytes, after the bytes xs
@@ -58,7 +59,7 @@ none_behind None = refl
 none_behind (Some b) = refl
 
 -- an odd count of digits stands for no bytes
-pub odd : (n : ℕ) (ds : List ℕ) → length ds ≡ 2 * n + 1 → bytes_of ds ≡ None
+odd : (n : ℕ) (ds : List ℕ) → length ds ≡ 2 * n + 1 → bytes_of ds ≡ None
 unfolding bytes_of
 odd zero [] e = absurd (omega arith)
 odd zero (a ∷ []) e = refl
@@ -67,14 +68,34 @@ odd (suc n) [] e = absurd (omega arith)
 odd (suc n) (a ∷ []) e = refl
 odd (suc n) (a ∷ b ∷ ds) e = rw (odd n ds (omega arith), none_behind)
 
-pub sector_inside : (ds : List ℕ) → 2 ≤ length ds → length ds ≤ 512 → sector_bytes ds ≡ bytes_of ds
+sector_inside : (ds : List ℕ) → 2 ≤ length ds → length ds ≤ 512 → sector_bytes ds ≡ bytes_of ds
 sector_inside ds h l = rw (le-leb 2 (length ds) h, le-leb (length ds) 512 l)
 
-pub sector_short : (ds : List ℕ) → length ds < 2 → sector_bytes ds ≡ None
-sector_short ds h = rw (lt-leb 2 (length ds) h)
+pub sector_none : (ds : List ℕ) → ¬ ((2 ≤ length ds) × (length ds ≤ 512) × (length ds % 2 ≡ 0)) → sector_bytes ds ≡ None
+sector_none ds n =
+    elim (cases_lt (length ds) 2) [
+      | inl h ↦ rw (lt-leb 2 (length ds) h)
+      | inr h ↦ elim (cases_lt 512 (length ds)) [
+        | inl l ↦ rw (le-leb 2 (length ds) h, lt-leb (length ds) 512 l)
+        | inr l ↦ let m : length ds % 2 ≡ 0 → ⊥ = λ e. n (h, l, e) in sector_inside ds h l ∙ odd (length ds / 2) ds (omega arith)
+      ]
+    ]
 
-pub sector_long : (ds : List ℕ) → 512 < length ds → sector_bytes ds ≡ None
-sector_long ds h = rw (le-leb 2 (length ds) (omega arith), lt-leb (length ds) 512 h)
+-- an even count of digits stands for bytes just if each of them is one
+digit_pair : (a b : Option ℕ) (o : Option (List ℕ)) (t : Bool) → is_some o ≡ t → is_some (in_front (two_digits a b) o) ≡ (is_some a && (is_some b && t))
+digit_pair None b o t e = refl
+digit_pair (Some a) None o t e = refl
+digit_pair (Some a) (Some b) None t e = e
+digit_pair (Some a) (Some b) (Some bs) t e = e
 
-pub sector_odd : (ds : List ℕ) → 2 ≤ length ds → length ds ≤ 512 → length ds ≡ 2 * (length ds / 2) + 1 → sector_bytes ds ≡ None
-sector_odd ds h l e = sector_inside ds h l ∙ odd (length ds / 2) ds e
+even_digits : (n : ℕ) (ds : List ℕ) → length ds ≡ 2 * n → list_all (λ b. is_some (hex_value b)) ds ≡ is_some (bytes_of ds)
+unfolding bytes_of
+even_digits zero [] e = refl
+even_digits zero (a ∷ ds) e = absurd (omega arith)
+even_digits (suc n) [] e = refl
+even_digits (suc n) (a ∷ []) e = absurd (omega arith)
+even_digits (suc n) (a ∷ b ∷ ds) e =
+    sym (digit_pair (hex_value a) (hex_value b) (bytes_of ds) (list_all (λ b. is_some (hex_value b)) ds) (sym (even_digits n ds (omega arith))))
+
+pub sector_digits : (ds : List ℕ) → (2 ≤ length ds) × (length ds ≤ 512) × (length ds % 2 ≡ 0) → list_all (λ b. is_some (hex_value b)) ds ≡ is_some (sector_bytes ds)
+sector_digits ds h = even_digits (length ds / 2) ds (omega arith) ∙ sym (ap is_some (sector_inside ds h.0 h.1))

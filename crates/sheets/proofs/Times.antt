@@ -28,21 +28,21 @@ pub so_far_none : {A : Type 0} (one : List Spot → Reading A) (n : ℕ) (ws : L
 so_far_none one n ws = let e : n ≡ n - 0 = omega arith in ap (λ k. times k one ws) e ∙ sym (after_none (times (n - 0) one ws))
 
 -- one more
-step : {A : Type 0} (one : List Spot → Reading A) (n i : ℕ) (vs : List Spot) → i < n
+pub times_one_more : {A : Type 0} (one : List Spot → Reading A) (n i : ℕ) (vs : List Spot) → i < n
     → times (n - i) one vs ≡ then (one vs) (λ x us. then (times (n - (i + 1)) one us) (λ xs ts. got (x ∷ xs) ts))
 unfolding times
-step one n i vs h = let e : n - i ≡ suc (n - (i + 1)) = omega arith in rw e
+times_one_more one n i vs h = let e : n - i ≡ suc (n - (i + 1)) = omega arith in rw e
 
 pub so_far_more : {A : Type 0} (one : List Spot → Reading A) (n : ℕ) (ws : List Spot) (i : ℕ) (xs : List A) (vs : List Spot) (x : A) (us : List Spot)
     → i < n → one vs ≡ got x us → SoFar one n ws i xs vs → SoFar one n ws (i + 1) (xs ++ x ∷ []) us
 so_far_more one n ws i xs vs x us h e s =
-    s ∙ ap (after xs) (step one n i vs h ∙ ap (λ r. then r (λ x us. then (times (n - (i + 1)) one us) (λ xs ts. got (x ∷ xs) ts))) e)
+    s ∙ ap (after xs) (times_one_more one n i vs h ∙ ap (λ r. then r (λ x us. then (times (n - (i + 1)) one us) (λ xs ts. got (x ∷ xs) ts))) e)
     ∙ after_one xs x (times (n - (i + 1)) one us)
 
 pub so_far_bad : {A : Type 0} (one : List Spot → Reading A) (n : ℕ) (ws : List Spot) (i : ℕ) (xs : List A) (vs : List Spot) (p : ℕ)
     → i < n → one vs ≡ bad p → SoFar one n ws i xs vs → times n one ws ≡ bad p
 so_far_bad one n ws i xs vs p h e s =
-    s ∙ ap (after xs) (step one n i vs h ∙ ap (λ r. then r (λ x us. then (times (n - (i + 1)) one us) (λ xs ts. got (x ∷ xs) ts))) e)
+    s ∙ ap (after xs) (times_one_more one n i vs h ∙ ap (λ r. then r (λ x us. then (times (n - (i + 1)) one us) (λ xs ts. got (x ∷ xs) ts))) e)
 
 pub so_far_all : {A : Type 0} (one : List Spot → Reading A) (n : ℕ) (ws : List Spot) (i : ℕ) (xs : List A) (vs : List Spot)
     → n ≤ i → SoFar one n ws i xs vs → times n one ws ≡ got xs vs

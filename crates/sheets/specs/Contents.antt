@@ -1,5 +1,5 @@
 -- What a sheet holds: its entries, as plain values. Assumes nothing.
-use Rattle.std.specs.Prelude.{◌≡◌, ℕ, List, ◌++◌, map, Ok, Err, vec_items, Result}
+use Rattle.std.specs.Prelude.{◌≡◌, ℕ, List, ◌++◌, map, Ok, Err, vec_items, Result, IsOk}
 use Rattle.ciphers.specs.declared.keys.Cipher.{Cipher}
 use Rattle.watch.specs.declared.side.Side.{Side}
 use Rattle.sheets.specs.declared.entries.FitEntry.{FitEntry}
@@ -40,8 +40,8 @@ sector_of e = sector_item e.side (vec_items e.bytes)
 abbrev pub contents : Sheet → Contents
 contents s = record { fits = map fit_of (vec_items s.fits); keys = map key_of (vec_items s.keys); sectors = map sector_of (vec_items s.sectors) }
 
--- r is what a sheet's reading comes to, or there was no memory for its entries
+-- r is what a sheet's reading comes to, or there was no memory for the entries of a good sheet
 abbrev pub Answered : Result Contents Fault → Result Sheet ReadError → Type 0
 Answered o (Ok s) = o ≡ Ok (contents s)
 Answered o (Err (Bad f)) = o ≡ Err f
-Answered o (Err NoMemory) = Unit {0}
+Answered o (Err NoMemory) = IsOk o

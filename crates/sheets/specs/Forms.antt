@@ -38,9 +38,13 @@ letter_of [] = None
 letter_of (a ∷ []) = Some a
 letter_of (a ∷ b ∷ bs) = None
 
--- an end: H (72) is the first, D (68) the second
+-- the end of a letter: H (72) is the first, D (68) the second
+abbrev pub side_named : ℕ → Option Side
+side_named b = cond (b == 72) (Some First) (cond (b == 68) (Some Second) None)
+
+-- an end: its letter
 abbrev pub side_of : List ℕ → Option Side
-side_of bs = by (letter_of bs) (λ b. cond (b == 72) (Some First) (cond (b == 68) (Some Second) None))
+side_of bs = by (letter_of bs) side_named
 
 -- a cipher: A (65) or S (83)
 abbrev pub cipher_of : List ℕ → Option Cipher

@@ -6,3 +6,5 @@ pub mod Readings
 pub mod Sheets
 pub mod Steps
 pub mod Shapes
+pub mod Checks
+pub mod Good

@@ -3,6 +3,8 @@ use Rattle.std.specs.Prelude.{◌≡◌, ℕ, List, [], ◌∷◌, map, drop, So
 use Rattle.std.specs.declared.alloc.AllocError.{AllocError}
 use Rattle.std.specs.declared.alloc.Global.{Global}
 use Rattle.words.specs.declared.Word.{Word}
+use Rattle.words.specs.declared.reader.Reader.{Reader}
+use Rattle.sheets.specs.declared.faults.Fault.{Fault}
 use Rattle.sheets.specs.declared.faults.ReadError.{ReadError}
 use Rattle.sheets.specs.declared.faults.ReadError.TheVariants.{Bad, NoMemory}
 use Rattle.sheets.specs.declared.faults.SheetRefusal.TheVariants.{BadWord, WordAfter}
@@ -19,9 +21,13 @@ use Rattle.sheets.specs.Readings.{Reading, got, bad, word_as}
 abbrev pub left_at : List ℕ → ℕ → List Spot
 left_at s a = spots a (drop a s)
 
+-- the words that a reader of words has before it
+abbrev pub ahead : Reader → List Spot
+ahead r = left_at r.text.now r.at
+
 -- the words that a reader has before it
 abbrev pub left : SheetReader → List Spot
-left r = left_at r.words.text.now r.words.at
+left r = ahead r.words
 
 -- a word as a plain value
 abbrev pub spot_of : Word → Spot
@@ -104,6 +110,6 @@ Held o (Ok None) = o ≡ None
 Held o (Err e) = Unit {0}
 
 -- no word may be left
-abbrev pub no_more : List Spot → Result (Unit {0}) ReadError
+abbrev pub no_more : List Spot → Result (Unit {0}) Fault
 no_more [] = Ok tt
-no_more (w ∷ ws) = Err (Bad (record { refusal = WordAfter; place = w.place }))
+no_more (w ∷ ws) = Err (record { refusal = WordAfter; place = w.place })

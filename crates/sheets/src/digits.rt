@@ -1,10 +1,12 @@
 // Words of digits: counts, keys and sectors.
-ghost use Rattle.std.specs.Prelude.{◌≡◌, ◌*◌, length};
+ghost use Rattle.std.specs.Prelude.{◌≡◌, ◌*◌, ◌%◌, ◌≤◌, Decides, is_some, length};
+ghost use Rattle.std.specs.List.{list_all};
+ghost use Rattle.words.specs.Hex.{hex_value};
 ghost use Rattle.sheets.specs.Forms.{decimal, one_or_two, count_of, key_bytes, sector_bytes};
 ghost use Rattle.sheets.specs.Steps.{Decoded, Held};
 
 use std::alloc::{AllocError, Global};
-use words::hex_byte;
+use words::{hex_byte, hex_value};
 
 // The value of a decimal digit.
 fn decimal_value(b: u8) -> Option<u8>
@@ -62,12 +64,36 @@ pub(crate) fn key_value(part: &[u8]) -> Option<[u8; 16]>
     Some(key)
 }
 
+// Whether a sector may have so many digits.
+fn sector_length(count: usize) -> bool
+    ensures { Decides result ((2 ≤ count) × (count ≤ 512) × (count % 2 ≡ 0)) }
+{
+    2 <= count && count <= 512 && count % 2 == 0
+}
+
+// Whether a word is a sector's digits.
+pub(crate) fn has_sector_digits(part: &[u8]) -> bool
+    ensures { result ≡ is_some (sector_bytes part.now) }
+{
+    if !sector_length(part.len()) {
+        return false;
+    }
+    all_digits(part)
+}
+
+// Whether all bytes are hexadecimal digits.
+fn all_digits(part: &[u8]) -> bool
+    ensures { result ≡ list_all (λ b. is_some (hex_value b)) part.now }
+{
+    part.iter().all(|b| hex_value(*b).is_some())
+}
+
 // A sector: 2 to 512 digits, an even count of them.
 pub(crate) fn sector_value(heap: Global, part: &[u8]) -> Result<Option<Vec<u8>>, AllocError>
     ensures { Held (sector_bytes part.now) result }
 {
     let count = part.len();
-    if count < 2 || count > 512 || count % 2 != 0 {
+    if !sector_length(count) {
         return Ok(None);
     }
     let mut bytes = vec![in heap; 0; count / 2]?;

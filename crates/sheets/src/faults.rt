@@ -1,7 +1,7 @@
 // Why a sheet is not read.
 ghost use Rattle.std.specs.Prelude.{◌≡◌};
 ghost use Rattle.sheets.specs.Numbers.{number_of};
-ghost use Rattle.sheets.specs.declared.faults.ReadError.TheVariants.{NoMemory};
+ghost use Rattle.sheets.specs.declared.faults.ReadError.TheVariants.{Bad, NoMemory};
 
 use std::alloc::{AllocError, AllocFailed};
 
@@ -29,12 +29,32 @@ pub struct Fault {
     pub place: usize,
 }
 
+impl Fault {
+    // The refusal of the word at a place, or of the word that is missing there.
+    pub(crate) fn bad_word(place: usize) -> Fault
+        ensures { result ≡ record { refusal = SheetRefusal.BadWord; place = place } }
+    {
+        Fault {
+            refusal: SheetRefusal::BadWord,
+            place,
+        }
+    }
+}
+
 // Why there is no sheet: it is refused, or there is no memory for its entries. Want of memory is an error of its own, since a bad sheet gets a
 // line and a run without memory gets none.
 #[derive(Clone, Copy, PartialEq, Eq, Debug)]
 pub enum ReadError {
     Bad(Fault),
     NoMemory,
+}
+
+impl From<Fault> for ReadError {
+    ghost from_gives = { λ fault r. r ≡ Bad fault };
+
+    fn from(fault: Fault) -> Self {
+        ReadError::Bad(fault)
+    }
 }
 
 // Both errors of memory come by `?`, and neither turns into the other.

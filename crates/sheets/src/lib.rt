@@ -1,6 +1,7 @@
-// Commissioning sheets: a sheet's bytes are read into its entries, or refused with the place of the first bad word.
+// Commissioning sheets: a sheet's bytes are checked and read into its entries, or refused with the place of the first bad word.
 #![tactic(auto)]
 
+pub mod check;
 mod digits;
 pub mod entries;
 pub mod faults;

@@ -1,39 +1,38 @@
 // Reads a sheet.
-ghost use Rattle.std.specs.Prelude.{◌≡◌};
+ghost use Rattle.std.specs.Prelude.{◌≡◌, IsOk};
 ghost use Rattle.sheets.specs.Contents.{Answered, contents};
+ghost use Rattle.sheets.specs.Good.{Judged};
 ghost use Rattle.sheets.specs.Sheets.{sections, words_hold, sheet_of};
-ghost use Rattle.sheets.specs.Steps.{left, no_more, Step};
+ghost use Rattle.sheets.specs.Steps.{Step};
 
+use crate::check::check_sheet;
 use crate::entries::Sheet;
-use crate::faults::{Fault, ReadError, SheetRefusal};
+use crate::faults::ReadError;
 use crate::sections::section_of;
 use crate::sheet_reader::SheetReader;
-use crate::steps::start;
+use crate::steps::{nothing_after, start};
 use std::alloc::Global;
 
-// The most bytes that a sheet may have.
-const LONGEST: usize = 16384;
-
-// The entries of a sheet, or the refusal and the place of its first bad word.
+/// Reads a sheet, given as its bytes, into its entries, whose memory comes from `heap`.
+///
+/// The sheet is checked first: a bad one gets `Bad` with the refusal (13, 14 or 15) and the place that `check_sheet` answers.
+/// Only a good one can get `NoMemory`, where there is no memory for its entries.
 pub fn read_sheet(heap: Global, sheet: &[u8]) -> Result<Sheet, ReadError>
-    ensures { Answered (sheet_of sheet.now) result }
+    ensures read { Answered (sheet_of sheet.now) result }
+    ensures judged { Judged sheet.now }
 {
-    if sheet.len() > LONGEST {
-        return Err(ReadError::Bad(Fault {
-            refusal: SheetRefusal::TooLong,
-            place: LONGEST,
-        }));
-    }
+    check_sheet(sheet)?;
     read_words(heap, sheet)
 }
 
-// The same, whatever the sheet's length.
+// The same of the words of a good sheet.
 fn read_words(heap: Global, sheet: &[u8]) -> Result<Sheet, ReadError>
+    requires { IsOk (words_hold sheet.now) }
     ensures { Answered (words_hold sheet.now) result }
 {
     let mut reader = start(heap, sheet);
     let entries = read_sections(&mut reader)?;
-    nothing_after(&mut reader)?;
+    nothing_after(reader.words)?;
     Ok(entries)
 }
 
@@ -46,17 +45,4 @@ fn read_sections(reader: &mut SheetReader) -> Result<Sheet, ReadError>
         keys: section_of(reader)?,
         sectors: section_of(reader)?,
     })
-}
-
-// No word may be left.
-fn nothing_after(reader: &mut SheetReader) -> Result<(), ReadError>
-    ensures { result ≡ no_more (left reader.old) }
-{
-    match reader.word() {
-        None => Ok(()),
-        Some(word) => Err(ReadError::Bad(Fault {
-            refusal: SheetRefusal::WordAfter,
-            place: word.place,
-        })),
-    }
 }

@@ -1,14 +1,19 @@
 // The sections of a sheet: a count, and that many entries of one kind.
 ghost use Rattle.std.specs.Prelude.{ℕ, List};
+ghost use Rattle.sheets.specs.Checks.{ComesTo, bare};
 ghost use Rattle.sheets.specs.Contents.{Item, fit_of, key_of, sector_of};
 ghost use Rattle.sheets.specs.Spots.{Spot};
 ghost use Rattle.sheets.specs.Readings.{Reading, section, times};
 ghost use Rattle.sheets.specs.Sheets.{fit_read, key_read, sector_read};
-ghost use Rattle.sheets.specs.Steps.{listed, Step};
+ghost use Rattle.sheets.specs.Steps.{ahead, listed, Step};
 
 use crate::entries::{FitEntry, KeyEntry, SectorEntry};
-use crate::faults::ReadError;
+use crate::faults::{Fault, ReadError};
 use crate::sheet_reader::SheetReader;
+use crate::steps::{check_count, check_value};
+use ciphers::keys::Cipher;
+use watch::side::Side;
+use words::reader::Reader;
 
 // A kind of entry: `item` is an entry as a plain value, and `form` how one is read from a list of words.
 pub(crate) trait Entry: Sized {
@@ -18,6 +23,10 @@ pub(crate) trait Entry: Sized {
 
     fn read(reader: &mut SheetReader) -> Result<Self, ReadError>
         ensures { Step item form reader.old result reader.new };
+
+    // The next words have to be those of an entry of this kind, in a sheet of `end` bytes.
+    fn check(words: &mut Reader, end: usize) -> Result<(), Fault>
+        ensures { ComesTo (bare (form end (ahead words.old))) result (ahead words.new) };
 }
 
 impl Entry for FitEntry {
@@ -30,6 +39,11 @@ impl Entry for FitEntry {
             side: reader.value()?,
             octic: reader.value()?,
         })
+    }
+
+    fn check(words: &mut Reader, end: usize) -> Result<(), Fault> {
+        check_value::<Side>(words, end)?;
+        check_value::<u16>(words, end)
     }
 }
 
@@ -45,6 +59,12 @@ impl Entry for KeyEntry {
             key: reader.value()?,
         })
     }
+
+    fn check(words: &mut Reader, end: usize) -> Result<(), Fault> {
+        check_value::<Side>(words, end)?;
+        check_value::<Cipher>(words, end)?;
+        check_value::<[u8; 16]>(words, end)
+    }
 }
 
 impl Entry for SectorEntry {
@@ -57,6 +77,11 @@ impl Entry for SectorEntry {
             side: reader.value()?,
             bytes: reader.value()?,
         })
+    }
+
+    fn check(words: &mut Reader, end: usize) -> Result<(), Fault> {
+        check_value::<Side>(words, end)?;
+        check_value::<Vec<u8>>(words, end)
     }
 }
 
@@ -77,4 +102,15 @@ pub(crate) fn section_of<E: Entry + Drop>(reader: &mut SheetReader) -> Result<Ve
 {
     let count = reader.value()?;
     entries_of(reader, count)
+}
+
+// A section of any kind of entry: a count, and that many entries.
+pub(crate) fn check_section<E: Entry>(words: &mut Reader, end: usize) -> Result<(), Fault>
+    ensures { ComesTo (bare (section E.Entry.form end (ahead words.old))) result (ahead words.new) }
+{
+    let count = check_count(words, end)?;
+    for _ in 0..count {
+        E::check(words, end)?;
+    }
+    Ok(())
 }

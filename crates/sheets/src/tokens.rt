@@ -4,7 +4,7 @@ ghost use Rattle.sheets.specs.Forms.{letter_of};
 ghost use Rattle.sheets.specs.Steps.{Made, token_spot, bad_word};
 
 use crate::digits::count_value;
-use crate::faults::{Fault, ReadError, SheetRefusal};
+use crate::faults::{Fault, ReadError};
 use words::Word;
 
 // A word where a count, a letter or digits are due. That each case holds its part of the sheet and its place is the form that the
@@ -39,14 +39,11 @@ pub(crate) enum Due {
 pub(crate) fn bad_word(place: usize) -> ReadError
     ensures { result ≡ bad_word place }
 {
-    ReadError::Bad(Fault {
-        refusal: SheetRefusal::BadWord,
-        place,
-    })
+    ReadError::Bad(Fault::bad_word(place))
 }
 
 // The letter of a word of one byte.
-fn lone_letter(part: &[u8]) -> Option<char>
+pub(crate) fn lone_letter(part: &[u8]) -> Option<char>
     ensures { result ≡ letter_of part.now }
 {
     match part {

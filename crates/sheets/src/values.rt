@@ -1,16 +1,16 @@
 // What the words of a sheet stand for: counts, ends, ciphers, octics, keys and sectors.
-ghost use Rattle.std.specs.Prelude.{◌≡◌, ℕ, List, Option, None, vec_items};
+ghost use Rattle.std.specs.Prelude.{◌≡◌, ℕ, List, Option, None, is_some, vec_items};
 ghost use Rattle.ciphers.specs.declared.keys.Cipher.{Cipher as CipherType};
 ghost use Rattle.watch.specs.declared.side.Side.{Side as SideType};
 ghost use Rattle.sheets.specs.declared.tokens.Due.{Due as DueType};
 ghost use Rattle.sheets.specs.declared.tokens.Due.TheVariants.{Count as DueCount, Letter as DueLetter, Digits as DueDigits};
-ghost use Rattle.sheets.specs.Forms.{count_of, side_of, cipher_of, octic_of, key_bytes, sector_bytes};
+ghost use Rattle.sheets.specs.Forms.{count_of, side_named, side_of, cipher_of, octic_of, key_bytes, sector_bytes};
 ghost use Rattle.sheets.specs.Shapes.{no_count, no_side, no_cipher, no_digits};
 ghost use Rattle.sheets.specs.Steps.{Shaped, Stands, shape};
 
-use crate::digits::{key_value, sector_value};
+use crate::digits::{count_value, has_sector_digits, key_value, sector_value};
 use crate::faults::ReadError;
-use crate::tokens::{Due, Token, bad_word};
+use crate::tokens::{Due, Token, bad_word, lone_letter};
 use ciphers::keys::Cipher;
 use std::alloc::Global;
 use watch::side::Side;
@@ -33,6 +33,10 @@ pub(crate) trait Value: Sized {
     fn of(heap: Global, token: Token) -> Result<Self, ReadError>
         requires { Shaped DUE token }
         ensures { Stands form item token.entry result };
+
+    // Whether a word stands for a value of this kind.
+    fn stands(part: &[u8]) -> bool
+        ensures { result ≡ is_some (form part.now) };
 
     // A word that makes no token stands for nothing.
     ghost shaped: { (bs : List ℕ) → shape DUE bs ≡ None → form bs ≡ None };
@@ -58,9 +62,25 @@ impl Value for u8 {
             other => Err(other.refused()),
         }
     }
+
+    fn stands(part: &[u8]) -> bool {
+        count_value(part).is_some()
+    }
 }
 
-// An end: H or D. Sheets read these letters and lines print them, and nothing else has them: so each match stands at its one place.
+// The end of a letter: H or D. Sheets read these letters and lines print them, and nothing else has them: so each match stands at its one
+// place.
+fn side_value(letter: char) -> Option<Side>
+    ensures { result ≡ side_named letter }
+{
+    match letter {
+        'H' => Some(Side::First),
+        'D' => Some(Side::Second),
+        _ => None,
+    }
+}
+
+// An end.
 impl Value for Side {
     ghost Plain = { SideType };
 
@@ -76,10 +96,13 @@ impl Value for Side {
 
     fn of(_heap: Global, token: Token) -> Result<Side, ReadError> {
         match token {
-            Token::Letter { letter: 'H', .. } => Ok(Side::First),
-            Token::Letter { letter: 'D', .. } => Ok(Side::Second),
+            Token::Letter { letter, place, .. } => side_value(letter).ok_or(bad_word(place)),
             other => Err(other.refused()),
         }
+    }
+
+    fn stands(part: &[u8]) -> bool {
+        lone_letter(part).and_then(side_value).is_some()
     }
 }
 
@@ -105,6 +128,13 @@ impl Value for Cipher {
             other => Err(other.refused()),
         }
     }
+
+    fn stands(part: &[u8]) -> bool {
+        match lone_letter(part) {
+            Some(letter) => Cipher::try_from(letter).is_ok(),
+            None => false,
+        }
+    }
 }
 
 // An octic: three digits.
@@ -126,6 +156,10 @@ impl Value for u16 {
             Token::Digits { part, place } => hex_triple(part).ok_or(bad_word(place)),
             other => Err(other.refused()),
         }
+    }
+
+    fn stands(part: &[u8]) -> bool {
+        hex_triple(part).is_some()
     }
 }
 
@@ -149,6 +183,10 @@ impl Value for [u8; 16] {
             other => Err(other.refused()),
         }
     }
+
+    fn stands(part: &[u8]) -> bool {
+        key_value(part).is_some()
+    }
 }
 
 // The bytes of a sector: an even count of digits, 2 to 512.
@@ -170,5 +208,9 @@ impl Value for Vec<u8> {
             Token::Digits { part, place } => sector_value(heap, part)?.ok_or(bad_word(place)),
             other => Err(other.refused()),
         }
+    }
+
+    fn stands(part: &[u8]) -> bool {
+        has_sector_digits(part)
     }
 }

@@ -1,29 +1,22 @@
--- What a round trip answers, and what it leaves in the work area. Assumes nothing.
-use Rattle.std.specs.Prelude.{◌≡◌, ℕ, not, ◌⊎◌, List, length, replicate, is_some, None, Some, Ok, Err, Option, Result, ◌==◌, nat_lt}
+-- What a round trip answers, and what it leaves in the work area and the bytes. Assumes nothing.
+use Rattle.std.specs.Prelude.{◌≡◌, ℕ, ◌⊎◌, List, length, replicate, None, Some, Ok, Err, Option, Result}
+use Rattle.std.specs.Option.{option_or}
 use Rattle.refusals.specs.declared.Refusal.{Refusal}
-use Rattle.refusals.specs.declared.Refusal.TheVariants.{UnknownLetter, OtherOctic, KeyLength, SmallWork, SectorLength}
+use Rattle.refusals.specs.declared.Refusal.TheVariants.{SectorLength}
 use Rattle.octics.specs.Octics.{Accepted}
 use Rattle.towers.specs.Fitted.{Sixteen, Refuses}
-use Rattle.ends.specs.Letters.{cipher_for, suits}
+use Rattle.ciphers.specs.declared.keys.Cipher.{Cipher}
+use Rattle.ciphers.specs.Counter.{sealed}
+use Rattle.ends.specs.Choice.{load_refusal}
+use Rattle.ends.specs.Letters.{cipher_for, encipher}
 use Rattle.ends.specs.Model.{refuse, unsized}
-
--- an end that is fitted to the octic refuses a letter, a key or a work area, and else what comes after is refused
-abbrev pub key_refused : ℕ → ℕ → List ℕ → List ℕ → Option Refusal → Option Refusal
-key_refused octic letter key work rest =
-    refuse (not (is_some (cipher_for letter))) UnknownLetter
-    (refuse (not (suits octic (cipher_for letter))) OtherOctic
-    (refuse (not (length key == 16)) KeyLength
-    (refuse (nat_lt (length work) 176) SmallWork rest)))
-
--- what ends that are fitted to the octic refuse, the sector's length last
-abbrev pub refusal_of : ℕ → ℕ → List ℕ → List ℕ → List ℕ → Option Refusal
-refusal_of octic letter key work bytes = key_refused octic letter key work (refuse (unsized bytes) SectorLength None)
 
 -- a ring, by its width and its product
 pub record Over : Type 0 where
   pub bits : ℕ
   pub times : ℕ → ℕ → ℕ
 
+-- a ring from its two parts
 abbrev pub over : ℕ → (ℕ → ℕ → ℕ) → Over
 over bits times = record { bits = bits; times = times }
 
@@ -37,10 +30,30 @@ pub record BothFitted (x y : Over) (octic : ℕ) : Type 0 where
   pub second : Sixteen y.bits y.times
   pub accepted : Accepted octic
 
--- accepted just if nothing is refused, and else the first refusal; the work area is as it was where a fit is refused, and else zero
-abbrev pub Trips : Over → Over → ℕ → ℕ → List ℕ → List ℕ → List ℕ → Result (Unit {0}) Refusal → List ℕ → Type 0
-Trips x y octic letter key work bytes (Ok u) left =
-    BothFitted x y octic × (refusal_of octic letter key work bytes ≡ None) × (left ≡ replicate (length work) 0)
-Trips x y octic letter key work bytes (Err e) left =
-    (Unfitted x y octic e × (left ≡ work))
-    ⊎ (BothFitted x y octic × (refusal_of octic letter key work bytes ≡ Some e) × (left ≡ replicate (length work) 0))
+-- what an end with a key refuses of a sector under its own ticket
+abbrev pub sector_refusal : List ℕ → Option Refusal
+sector_refusal bytes = refuse (unsized bytes) SectorLength None
+
+-- what is refused at ends that are fitted to the octic: the first end's key, or else the second's, or else the sector
+abbrev pub refusal_of : ℕ → ℕ → List ℕ → List ℕ → List ℕ → List ℕ → Option Refusal
+refusal_of octic letter one two work bytes =
+    option_or (load_refusal octic letter one work) (option_or (load_refusal octic letter two work) (sector_refusal bytes))
+
+-- the sector under a key, with the name 1 and the number 0, sealed or opened alike; where the letter names no cipher, as it is
+abbrev pub under : Option Cipher → List ℕ → List ℕ → List ℕ
+under None key bytes = bytes
+under (Some c) key bytes = sealed (encipher c key) 1 0 bytes
+
+-- accepted just if nothing is refused, and then the answer is the sector under the first key, and the bytes are the answer under the
+-- second; else the first refusal, and the bytes are as they were; the work area is as it was where a fit is refused, and else zero
+abbrev pub Trips : Over → Over → ℕ → ℕ → List ℕ → List ℕ → List ℕ → List ℕ → Result (List ℕ) Refusal → List ℕ → List ℕ → Type 0
+Trips x y octic letter one two work bytes (Ok s) left after =
+    (s ≡ under (cipher_for letter) one bytes)
+    × (after ≡ under (cipher_for letter) two s)
+    × BothFitted x y octic
+    × (refusal_of octic letter one two work bytes ≡ None)
+    × (left ≡ replicate (length work) 0)
+Trips x y octic letter one two work bytes (Err e) left after =
+    (after ≡ bytes)
+    × ((Unfitted x y octic e × (left ≡ work))
+    ⊎ (BothFitted x y octic × (refusal_of octic letter one two work bytes ≡ Some e) × (left ≡ replicate (length work) 0)))

@@ -68,6 +68,7 @@ every_log_shows w L logged =
           };
       tells = tells_run begins L w run;
       opens = opens_run begins L w run;
+      numbers = (kept begins L w run).single;
       once = once begins L w run;
     }
 

@@ -12,7 +12,7 @@ use Rattle.ends.specs.declared.ticket.Ticket.{Ticket}
 use Rattle.ends.specs.Model.Call.{fitting, sealing, opening, telling}
 use Rattle.ends.specs.Model.{answer_of, told_of}
 use Rattle.watch.specs.declared.side.Side.{Side}
-use Rattle.watch.specs.Log.{Entry, entry, Log, ◌▷◌, Came, Since, holds, Handed, used, NoneTwice}
+use Rattle.watch.specs.Log.{Entry, entry, Log, ◌▷◌, Came, Since, holds, drawn, Handed, used, NoneTwice}
 use Rattle.watch.specs.Runs.{World, Goes, Logged}
 
 -- one lawful pair of the ring and the octic: the fit is defined to keep it and answered its c and ones, no lawful pair has
@@ -28,20 +28,25 @@ pub record Names (times : ℕ → ℕ → ℕ) (s : Side) (octic : ℕ) (a : Ans
   pub ones : pair.ones ≡ both_ones kept.tells.map kept.tells.back
   pub answered : a ≡ answer_of pair
   pub fewest : (d : ℕ) (m n : ℕ → ℕ) → Lawful times (mul_mod 8 octic) d m → Reverse m n → pair.ones ≤ both_ones m n
-  pub told : (before after : Told) (Q : Log) → Came (entry s (telling before after (Ok tt))) Q L → Since s (P ▷ entry s (fitting octic (Ok a))) Q → after ≡ told_of pair
+  pub told : (before after : Told) (Q : Log) → Came (entry s (telling before after (Ok tt))) Q L →
+      Since s (P ▷ entry s (fitting octic (Ok a))) Q → after ≡ told_of pair
 
--- the three parts of the promise, over a log of the two ends w
+-- the promise, over a log of the two ends w
 pub record Shows (w : World) (L : Log) : Type 0 where
-  -- (a) each accepted fit has such a pair
-  pub fits : (s : Side) (octic : ℕ) (a : Answer) (P : Log) → Came (entry s (fitting octic (Ok a))) P L → Names (w s).times s octic a P L
+  -- one pair from fit to fit: each accepted fit has such a pair
+  pub fits : (s : Side) (octic : ℕ) (a : Answer) (P : Log) →
+      Came (entry s (fitting octic (Ok a))) P L → Names (w s).times s octic a P L
   -- and each accepted tell comes after an accepted fit
   pub tells : (s : Side) (before after : Told) (Q : Log) → Came (entry s (telling before after (Ok tt))) Q L →
       (octic : ℕ) × (a : Answer) × (P : Log) × Since s (P ▷ entry s (fitting octic (Ok a))) Q
-  -- (b) an open of an accepted seal's bytes, later and at either end, by that ticket's name and number, is accepted and gives the first bytes, if the end then holds what the sealing end held
+  -- what was sealed opens: an open of an accepted seal's bytes, later and at either end, by that ticket's name and number, is
+  -- accepted and gives the first bytes, if the end then holds what the sealing end held
   pub opens : (s s' : Side) (t : Ticket) (first sealed out : List ℕ) (r : Result (Unit {0}) Refusal) (P Q : Log) →
       Came (entry s (sealing t first sealed (Ok tt))) P Q → Came (entry s' (opening t.name t.number sealed out r)) Q L →
       holds s' Q ≡ holds s P → (r ≡ Ok tt) × (out ≡ first)
-  -- (c) no counter block is used twice by accepted seals
+  -- no number twice: no name and number is drawn twice
+  pub numbers : (t : Ticket) → drawn t L ≤ 1
+  -- no counter block twice: none is used twice by accepted seals
   pub once : NoneTwice (used L)
 
 -- a call takes each log of the two ends to a longer one, and that shows all this

@@ -31,8 +31,10 @@ pub record Starts {X Y : Type 0} (x : Kind X) (y : Kind Y) (one two : Model) (w 
   pub second : world x y w Second ≡ two
   pub logged : (one.name ≢ two.name) → Logged (world x y w) none
 
--- a watch lets a call through: the end that it is for steps, and the other stays; and whatever log its two ends had, the call is
--- one entry more, and the longer log shows what is promised
-pub record Passes {X Y : Type 0} (x : Kind X) (y : Kind Y) (before : Watch X Y) (e : Entry) (after : Watch X Y) : Type 0 where
-  pub goes : Goes (world x y before) e (world x y after)
-  pub onward : Onward (world x y before) e (world x y after)
+-- a watch lets a call through: the end that it is for steps, and the other stays
+abbrev pub Passes : {X Y : Type 0} → Kind X → Kind Y → Watch X Y → Entry → Watch X Y → Type 0
+Passes x y before e after = Goes (world x y before) e (world x y after)
+
+-- whatever log its two ends had, the call is one entry more, and the longer log shows the promise
+abbrev pub Extends : {X Y : Type 0} → Kind X → Kind Y → Watch X Y → Entry → Watch X Y → Type 0
+Extends x y before e after = Onward (world x y before) e (world x y after)

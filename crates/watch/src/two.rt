@@ -1,8 +1,9 @@
 // A watch over two ends: the seven calls pass through it, and each log of them shows what is promised.
+ghost use Rattle.std.specs.Prelude.{◌≡◌, IfErr};
 ghost use Rattle.ends.specs.Model.Call.{fitting, keying, drawing, sealing, opening, wiping, telling};
 ghost use Rattle.watch.specs.Log.{entry};
 ghost use Rattle.watch.specs.Shows.{EachCallShows, EveryLogShows};
-ghost use Rattle.watch.specs.Watched.{Passes, Starts, fresh, kind};
+ghost use Rattle.watch.specs.Watched.{Extends, Passes, Starts, fresh, kind};
 
 use super::side::Side;
 use ends::end::End;
@@ -29,7 +30,8 @@ fn each_call_shows()
 {}
 
 impl<X: Ring, Y: Ring> Watch<X, Y> {
-    // Two ends just made, each over its own ring. Whatever calls follow, every log of two ends of different names shows the promise.
+    /// Makes two ends, each over its own ring, under its name and with its first number. Whatever calls follow, every log of two ends of
+    /// different names shows the promise. What `End::new` says of the first number of an end that is made again holds of both.
     pub fn new(x: X, name_x: u16, first_x: u64, y: Y, name_y: u16, first_y: u64) -> Self
         ensures starts { Starts (kind X.Ring.WIDTH X.Ring.mul) (kind Y.Ring.WIDTH Y.Ring.mul) (fresh (kind X.Ring.WIDTH X.Ring.mul) x name_x first_x) (fresh (kind Y.Ring.WIDTH Y.Ring.mul) y name_y first_y) result }
         ensures promise { EveryLogShows }
@@ -41,9 +43,11 @@ impl<X: Ring, Y: Ring> Watch<X, Y> {
         }
     }
 
-    // Passes a fit on to an end.
+    /// Passes a fit on to an end. A refusal leaves the watch as it was.
     pub fn fit(&mut self, side: Side, octic: u16) -> Result<Answer, Refusal>
-        ensures { Passes (kind X.Ring.WIDTH X.Ring.mul) (kind Y.Ring.WIDTH Y.Ring.mul) self.old (entry side (fitting octic result)) self.new }
+        ensures goes { Passes (kind X.Ring.WIDTH X.Ring.mul) (kind Y.Ring.WIDTH Y.Ring.mul) self.old (entry side (fitting octic result)) self.new }
+        ensures onward { Extends (kind X.Ring.WIDTH X.Ring.mul) (kind Y.Ring.WIDTH Y.Ring.mul) self.old (entry side (fitting octic result)) self.new }
+        ensures unaltered { IfErr result (λ _. self.new ≡ self.old) }
     {
         each_call_shows();
         match side {
@@ -52,7 +56,7 @@ impl<X: Ring, Y: Ring> Watch<X, Y> {
         }
     }
 
-    // Passes a key on to an end.
+    /// Passes a key on to an end. All of the work area is zero afterwards in any case; a refusal leaves the watch as it was.
     pub fn key(
         &mut self,
         side: Side,
@@ -60,7 +64,9 @@ impl<X: Ring, Y: Ring> Watch<X, Y> {
         key: &[u8],
         work: &mut [u8],
     ) -> Result<(), Refusal>
-        ensures { Passes (kind X.Ring.WIDTH X.Ring.mul) (kind Y.Ring.WIDTH Y.Ring.mul) self.old (entry side (keying letter key.now work.old work.new result)) self.new }
+        ensures goes { Passes (kind X.Ring.WIDTH X.Ring.mul) (kind Y.Ring.WIDTH Y.Ring.mul) self.old (entry side (keying letter key.now work.old work.new result)) self.new }
+        ensures onward { Extends (kind X.Ring.WIDTH X.Ring.mul) (kind Y.Ring.WIDTH Y.Ring.mul) self.old (entry side (keying letter key.now work.old work.new result)) self.new }
+        ensures unaltered { IfErr result (λ _. self.new ≡ self.old) }
     {
         each_call_shows();
         match side {
@@ -69,9 +75,11 @@ impl<X: Ring, Y: Ring> Watch<X, Y> {
         }
     }
 
-    // Draws a ticket at an end.
+    /// Passes a draw on to an end. A refusal leaves the watch as it was.
     pub fn draw(&mut self, side: Side) -> Result<Ticket, Refusal>
-        ensures { Passes (kind X.Ring.WIDTH X.Ring.mul) (kind Y.Ring.WIDTH Y.Ring.mul) self.old (entry side (drawing result)) self.new }
+        ensures goes { Passes (kind X.Ring.WIDTH X.Ring.mul) (kind Y.Ring.WIDTH Y.Ring.mul) self.old (entry side (drawing result)) self.new }
+        ensures onward { Extends (kind X.Ring.WIDTH X.Ring.mul) (kind Y.Ring.WIDTH Y.Ring.mul) self.old (entry side (drawing result)) self.new }
+        ensures unaltered { IfErr result (λ _. self.new ≡ self.old) }
     {
         each_call_shows();
         match side {
@@ -80,9 +88,10 @@ impl<X: Ring, Y: Ring> Watch<X, Y> {
         }
     }
 
-    // Seals at an end.
+    /// Passes a seal on to an end, which spends the ticket, accepted or not. A refusal leaves the bytes as they were.
     pub fn seal(&self, side: Side, ticket: Ticket, bytes: &mut [u8]) -> Result<(), Refusal>
-        ensures { Passes (kind X.Ring.WIDTH X.Ring.mul) (kind Y.Ring.WIDTH Y.Ring.mul) self.now (entry side (sealing ticket bytes.old bytes.new result)) self.now }
+        ensures goes { Passes (kind X.Ring.WIDTH X.Ring.mul) (kind Y.Ring.WIDTH Y.Ring.mul) self.now (entry side (sealing ticket bytes.old bytes.new result)) self.now }
+        ensures onward { Extends (kind X.Ring.WIDTH X.Ring.mul) (kind Y.Ring.WIDTH Y.Ring.mul) self.now (entry side (sealing ticket bytes.old bytes.new result)) self.now }
     {
         each_call_shows();
         match side {
@@ -91,9 +100,10 @@ impl<X: Ring, Y: Ring> Watch<X, Y> {
         }
     }
 
-    // Opens at an end.
+    /// Passes an open on to an end. A refusal leaves the bytes as they were.
     pub fn open(&self, side: Side, name: u16, number: u64, bytes: &mut [u8]) -> Result<(), Refusal>
-        ensures { Passes (kind X.Ring.WIDTH X.Ring.mul) (kind Y.Ring.WIDTH Y.Ring.mul) self.now (entry side (opening name number bytes.old bytes.new result)) self.now }
+        ensures goes { Passes (kind X.Ring.WIDTH X.Ring.mul) (kind Y.Ring.WIDTH Y.Ring.mul) self.now (entry side (opening name number bytes.old bytes.new result)) self.now }
+        ensures onward { Extends (kind X.Ring.WIDTH X.Ring.mul) (kind Y.Ring.WIDTH Y.Ring.mul) self.now (entry side (opening name number bytes.old bytes.new result)) self.now }
     {
         each_call_shows();
         match side {
@@ -102,9 +112,10 @@ impl<X: Ring, Y: Ring> Watch<X, Y> {
         }
     }
 
-    // Wipes an end.
+    /// Passes a wipe on to an end.
     pub fn wipe(&mut self, side: Side)
-        ensures { Passes (kind X.Ring.WIDTH X.Ring.mul) (kind Y.Ring.WIDTH Y.Ring.mul) self.old (entry side wiping) self.new }
+        ensures goes { Passes (kind X.Ring.WIDTH X.Ring.mul) (kind Y.Ring.WIDTH Y.Ring.mul) self.old (entry side wiping) self.new }
+        ensures onward { Extends (kind X.Ring.WIDTH X.Ring.mul) (kind Y.Ring.WIDTH Y.Ring.mul) self.old (entry side wiping) self.new }
     {
         each_call_shows();
         match side {
@@ -113,9 +124,10 @@ impl<X: Ring, Y: Ring> Watch<X, Y> {
         }
     }
 
-    // Has an end tell its pair.
+    /// Passes a tell on to an end. A refusal leaves the record as it was.
     pub fn tell(&self, side: Side, told: &mut Told) -> Result<(), Refusal>
-        ensures { Passes (kind X.Ring.WIDTH X.Ring.mul) (kind Y.Ring.WIDTH Y.Ring.mul) self.now (entry side (telling told.old told.new result)) self.now }
+        ensures goes { Passes (kind X.Ring.WIDTH X.Ring.mul) (kind Y.Ring.WIDTH Y.Ring.mul) self.now (entry side (telling told.old told.new result)) self.now }
+        ensures onward { Extends (kind X.Ring.WIDTH X.Ring.mul) (kind Y.Ring.WIDTH Y.Ring.mul) self.now (entry side (telling told.old told.new result)) self.now }
     {
         each_call_shows();
         match side {

@@ -18,7 +18,7 @@ returns g c =
     let byte : c.args.code % 256 ≡ c.args.code = omega arith in
     let below : Inverts (pairing_bits w) 1 (pairing_mul w mul k) (c.args.code % 2 ^ pairing_bits w) r =
     subst₂ (λ (m : ℕ → ℕ → ℕ) (q : ℕ). Inverts (pairing_bits w) 1 (pairing_mul w m q) (c.args.code % 2 ^ pairing_bits w) r)
-    (ap g.R.Ring.mul c.new.ensures.below) c.new.ensures.constant c.inverse.ensures in
+    (ap g.R.Ring.mul c.new.ensures.below) c.new.ensures.constant c.inverse.ensures.inverse in
     record {
       tower = λ four.
           subst (OrZero 8 (pair_mul 4 mul k) c.args.code) (sym c.unwrap_or.ensures)
