@@ -51,7 +51,7 @@ fn digest(bytes: &[u8]) -> u64 {
     })
 }
 
-// A sector of up to 4,097 bytes, one more than an end works. It stands in an array: with a `Vec` the program could run out of memory.
+// A sector of up to 4,097 bytes, one more than an end seals. It stands in an array: with a `Vec` the program could run out of memory.
 #[derive(Clone, Copy)]
 struct Sector {
     area: [u8; 4097],
