@@ -51,10 +51,13 @@ fn digest(bytes: &[u8]) -> u64 {
     })
 }
 
-// A sector of up to 4,097 bytes, one more than an end seals. It stands in an array: with a `Vec` the program could run out of memory.
+// One byte more than an end seals.
+const TOO_LONG: usize = 4097;
+
+// A sector of up to so many bytes. It stands in an array: with a `Vec` the program could run out of memory.
 #[derive(Clone, Copy)]
 struct Sector {
-    area: [u8; 4097],
+    area: [u8; TOO_LONG],
     length: usize,
 }
 
@@ -62,7 +65,7 @@ impl Sector {
     // All bytes are 0.
     fn zero(length: usize) -> Sector {
         Sector {
-            area: [0; 4097],
+            area: [0; TOO_LONG],
             length,
         }
     }
@@ -78,7 +81,7 @@ impl Sector {
     }
 
     fn bytes(&mut self) -> &mut [u8] {
-        &mut self.area[..self.length.min(4097)]
+        &mut self.area[..self.length.min(TOO_LONG)]
     }
 }
 
@@ -273,11 +276,11 @@ fn print_refused_open(rt: &HostRuntime, has_key: bool, length: usize) -> io::Res
 fn refusals_in_order(rt: &HostRuntime) -> io::Result<()> {
     for has_key in [false, true] {
         for own in [false, true] {
-            for length in [0, 1, 4097] {
+            for length in [0, 1, TOO_LONG] {
                 print_refused_seal(rt, has_key, own, length)?;
             }
         }
-        for length in [0, 1, 4097] {
+        for length in [0, 1, TOO_LONG] {
             print_refused_open(rt, has_key, length)?;
         }
     }
@@ -318,7 +321,7 @@ fn print_sector<R: Ring + Drop>(
 
 fn sectors(rt: &HostRuntime, kind: Kind) -> io::Result<()> {
     let numbers = 0xfedcba9876543210..=u64::MAX;
-    for (number, length) in numbers.zip([0, 1, 15, 16, 17, 4096, 4097]) {
+    for (number, length) in numbers.zip([0, 1, 15, 16, 17, 4096, TOO_LONG]) {
         print_sector(rt, Quartic::Ring13, kind, number, length)?;
     }
     print_sector(rt, Quartic::Ring19, kind, 7, 33)?;

@@ -1,7 +1,7 @@
 // Prints the product tables and the inverses of rings of every kind.
 #![tactic(auto)]
 
-ghost use Rattle.std.specs.Prelude.{◌≤◌};
+ghost use Rattle.std.specs.Prelude.{◌≡◌, ◌^◌, ◌≤◌, min};
 
 use rings::Ring;
 use rings::pairing::Pairing;
@@ -51,7 +51,8 @@ fn codes<R: Ring>() -> RangeInclusive<u8> {
 
 // How many codes stand in a line: sixteen, or all of a ring with fewer. So a line is an array, and the program needs no memory.
 fn in_line<R: Ring>() -> usize
-    ensures { result ≤ 16 }
+    ensures count { result ≡ min (2 ^ R.Ring.WIDTH) 16 }
+    ensures room { result ≤ 16 }
 {
     (1usize << R::WIDTH).min(16)
 }
