@@ -23,7 +23,7 @@ fn triple(b: u8) -> u8
 fn sub_bytes<B: Substitute>(boxes: &B, s: [u8; 16]) -> [u8; 16]
     ensures { result ≡ sub_bytes (B.boxed boxes.now) s }
 {
-    // With `map` over the bytes a sector takes a sixth more instructions.
+    // With `map` over the bytes a sector takes a seventh more instructions.
     array::from_fn(|i| boxes.substitute(s[i]))
 }
 

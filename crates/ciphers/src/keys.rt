@@ -31,7 +31,9 @@ fn sm4_words<B: Substitute>(boxes: &B, key: &[u8; 16], work: &mut [u8; 176]) -> 
 }
 
 impl Schedule {
-    // The schedule of a key, worked out in the work area and taken from there.
+    // The schedule of a key, worked out in the work area and taken from there. Not inlined: a call that is refused before it comes here
+    // would clear the room for it all the same.
+    #[inline(never)]
     pub fn new<B: Substitute>(
         boxes: &B,
         cipher: Cipher,

@@ -75,7 +75,8 @@ fn first_key_words(key: &[u8; 16]) -> [u32; 4]
 }
 
 // The round keys of a key, into the first 128 bytes of `work`. The words are written by their places, since after `chunks_mut` a proof
-// does not know what was written; and the step is written out here and below, since the check does not cover `x = f(x)` of an array.
+// does not know what was written; and the step is written out here and below: with a function for each a name is needed for its answer,
+// since the check does not cover `x = f(x)` of an array.
 pub(crate) fn expand<B: Substitute>(boxes: &B, key: &[u8; 16], work: &mut [u8; 176])
     ensures held { work.new ≡ bytes_of (schedule_s (B.boxed boxes.now) key.now) ++ drop 128 work.old }
     ensures words { (k : ℕ) → k < 32 → slice_index (schedule_s (B.boxed boxes.now) key.now) k < 2 ^ 32 }

@@ -8,7 +8,6 @@ use refusals::Refusal;
 use rings::Ring;
 use rings::pairing::Pairing;
 use rings::poly::{Four, Octic, Quartic};
-use std::alloc::{AllocError, Global};
 use std::iter::successors;
 use std::{fmt, io};
 use words::shown::Spaced;
@@ -52,11 +51,38 @@ fn digest(bytes: &[u8]) -> u64 {
     })
 }
 
-// The bytes 3, 10, 17 and so on. The cipher tests have the same; a crate for three lines is no plainer.
-fn plain(heap: Global, length: usize) -> Result<Vec<u8>, AllocError> {
-    successors(Some(3u8), |b| Some(b.wrapping_add(7)))
-        .take(length)
-        .collect(heap)
+// One byte more than an end seals.
+const TOO_LONG: usize = 4097;
+
+// A sector of up to so many bytes. It stands in an array: with a `Vec` the program could run out of memory.
+#[derive(Clone, Copy)]
+struct Sector {
+    area: [u8; TOO_LONG],
+    length: usize,
+}
+
+impl Sector {
+    // All bytes are 0.
+    fn zero(length: usize) -> Sector {
+        Sector {
+            area: [0; TOO_LONG],
+            length,
+        }
+    }
+
+    // The bytes 3, 10, 17 and so on. The cipher tests have the same; a crate for three lines is no plainer.
+    fn plain(length: usize) -> Sector {
+        let mut sector = Sector::zero(length);
+        let values = successors(Some(3u8), |b| Some(b.wrapping_add(7)));
+        for (b, value) in sector.area.iter_mut().zip(values) {
+            *b = value;
+        }
+        sector
+    }
+
+    fn bytes(&mut self) -> &mut [u8] {
+        &mut self.area[..self.length.min(TOO_LONG)]
+    }
 }
 
 // An end at work, and where its answers go.
@@ -112,10 +138,9 @@ impl<R: Ring> Report<'_, R> {
         }
     }
 
-    fn open(&self, label: &str, number: u64, bytes: &[u8]) -> io::Result<()> {
-        let mut copy = bytes.to_vec(self.rt.alloc())?;
-        let code = Code(self.end.open(0xc0de, number, &mut copy));
-        println!(self.rt; "O {label} {code} {:016X}", digest(&copy))
+    fn open(&self, label: &str, number: u64, mut sector: Sector) -> io::Result<()> {
+        let code = Code(self.end.open(0xc0de, number, sector.bytes()));
+        println!(self.rt; "O {label} {code} {:016X}", digest(sector.bytes()))
     }
 }
 
@@ -158,8 +183,10 @@ fn print_key(
     key: &[u8],
     room: usize,
 ) -> io::Result<()> {
-    let mut work = vec![in rt.alloc(); 0xa5u8; room]?;
-    let code = Code(fitted(octic).key(letter, key, &mut work));
+    // An array, for the reason that a sector is one.
+    let mut area = [0xa5u8; 300];
+    let work = &mut area[..room.min(300)];
+    let code = Code(fitted(octic).key(letter, key, work));
     let left = work
         .iter()
         .fold(0u32, |sum, b| sum.wrapping_add(u32::from(*b)));
@@ -232,9 +259,8 @@ fn print_refused_seal(rt: &HostRuntime, has_key: bool, own: bool, length: usize)
     if !has_key {
         end.wipe();
     }
-    let mut bytes = vec![in rt.alloc(); 0u8; length]?;
     let ticket = if own { end.draw() } else { other.draw() };
-    let code = Code(sealed(&end, ticket, &mut bytes));
+    let code = Code(sealed(&end, ticket, Sector::zero(length).bytes()));
     println!(rt; "R {} {} {length} {code}", u8::from(has_key), u8::from(own))
 }
 
@@ -243,19 +269,18 @@ fn print_refused_open(rt: &HostRuntime, has_key: bool, length: usize) -> io::Res
     if !has_key {
         end.wipe();
     }
-    let mut bytes = vec![in rt.alloc(); 0u8; length]?;
-    let code = Code(end.open(9, 7, &mut bytes));
+    let code = Code(end.open(9, 7, Sector::zero(length).bytes()));
     println!(rt; "Q {} {length} {code}", u8::from(has_key))
 }
 
 fn refusals_in_order(rt: &HostRuntime) -> io::Result<()> {
     for has_key in [false, true] {
         for own in [false, true] {
-            for length in [0, 1, 4097] {
+            for length in [0, 1, TOO_LONG] {
                 print_refused_seal(rt, has_key, own, length)?;
             }
         }
-        for length in [0, 1, 4097] {
+        for length in [0, 1, TOO_LONG] {
             print_refused_open(rt, has_key, length)?;
         }
     }
@@ -263,15 +288,15 @@ fn refusals_in_order(rt: &HostRuntime) -> io::Result<()> {
 }
 
 // Opens a copy of what was sealed at an end over each of four rings.
-fn print_opens(rt: &HostRuntime, kind: Kind, number: u64, bytes: &[u8]) -> io::Result<()> {
+fn print_opens(rt: &HostRuntime, kind: Kind, number: u64, sector: Sector) -> io::Result<()> {
     let end = keyed(Quartic::Ring13, 4, 0, kind);
-    Report { rt, end }.open("13", number, bytes)?;
+    Report { rt, end }.open("13", number, sector)?;
     let end = keyed(Quartic::Ring19, 1, 0, kind);
-    Report { rt, end }.open("19", number, bytes)?;
+    Report { rt, end }.open("19", number, sector)?;
     let end = keyed(Quartic::Ring1F, 2, 0, kind);
-    Report { rt, end }.open("1F", number, bytes)?;
+    Report { rt, end }.open("1F", number, sector)?;
     let end = keyed(Pairing::new(Four, 2), 3, 0, kind);
-    Report { rt, end }.open("F4", number, bytes)
+    Report { rt, end }.open("F4", number, sector)
 }
 
 // Seals a sector at an end over a ring, and opens it over each of the four.
@@ -283,20 +308,20 @@ fn print_sector<R: Ring + Drop>(
     length: usize,
 ) -> io::Result<()> {
     let mut end = keyed(ring, 0xc0de, number, kind);
-    let mut bytes = plain(rt.alloc(), length)?;
+    let mut sector = Sector::plain(length);
     let ticket = end.draw();
-    let code = Code(sealed(&end, ticket, &mut bytes));
+    let code = Code(sealed(&end, ticket, sector.bytes()));
     println!(rt;
         "S {} {length} {code} {number} {:016X}",
         kind.letter,
-        digest(&bytes)
+        digest(sector.bytes())
     )?;
-    print_opens(rt, kind, number, &bytes)
+    print_opens(rt, kind, number, sector)
 }
 
 fn sectors(rt: &HostRuntime, kind: Kind) -> io::Result<()> {
     let numbers = 0xfedcba9876543210..=u64::MAX;
-    for (number, length) in numbers.zip([0, 1, 15, 16, 17, 4096, 4097]) {
+    for (number, length) in numbers.zip([0, 1, 15, 16, 17, 4096, TOO_LONG]) {
         print_sector(rt, Quartic::Ring13, kind, number, length)?;
     }
     print_sector(rt, Quartic::Ring19, kind, 7, 33)?;

@@ -1,12 +1,14 @@
 // Prints the product tables and the inverses of rings of every kind.
 #![tactic(auto)]
 
+ghost use Rattle.std.specs.Prelude.{◌≡◌, ◌^◌, ◌≤◌, min};
+
 use rings::Ring;
 use rings::pairing::Pairing;
 use rings::poly::{Four, Octic, Quartic};
 use rings::powers::Powers13;
 use std::ops::RangeInclusive;
-use std::{fmt, io};
+use std::{array, fmt, io};
 
 // A code by its digit, or by two if its ring is wide; a dash where there is none.
 #[derive(Clone, Copy)]
@@ -47,36 +49,40 @@ fn codes<R: Ring>() -> RangeInclusive<u8> {
     0..=u8::MAX >> (8 - R::WIDTH)
 }
 
+// How many codes stand in a line: sixteen, or all of a ring with fewer. So a line is an array, and the program needs no memory.
+fn in_line<R: Ring>() -> usize
+    ensures count { result ≡ min (2 ^ R.Ring.WIDTH) 16 }
+    ensures room { result ≤ 16 }
+{
+    (1usize << R::WIDTH).min(16)
+}
+
 // Three functions take the runtime and a ring; a struct of the two would be longer and say no more.
-fn print_products<R: Ring>(rt: &HostRuntime, ring: &R) -> io::Result<()> {
+fn print_products<R: Ring>(rt: &impl Print, ring: &R) -> io::Result<()> {
     for a in codes::<R>() {
-        let row: Vec<Shown> = codes::<R>()
-            .map(|b| Shown {
-                code: Some(ring.product(a, b)),
-                wide: false,
-            })
-            .collect(rt.alloc())?;
-        println!(rt; "{}", Line(&row))?;
+        let row: [Shown; 16] = array::from_fn(|b| Shown {
+            code: Some(ring.product(a, b as u8)),
+            wide: false,
+        });
+        println!(rt; "{}", Line(&row[..in_line::<R>()]))?;
     }
     Ok(())
 }
 
-fn print_inverses<R: Ring>(rt: &HostRuntime, ring: &R) -> io::Result<()> {
+fn print_inverses<R: Ring>(rt: &impl Print, ring: &R) -> io::Result<()> {
     let wide = R::WIDTH == 8;
-    let inverses: Vec<Shown> = codes::<R>()
-        .map(|a| Shown {
-            code: ring.inverse(a),
-            wide,
-        })
-        .collect(rt.alloc())?;
     println!(rt; "inverses")?;
-    for line in inverses.chunks(16) {
-        println!(rt; "{}", Line(line))?;
+    for first in codes::<R>().step_by(16) {
+        let line: [Shown; 16] = array::from_fn(|i| Shown {
+            code: ring.inverse(first.wrapping_add(i as u8)),
+            wide,
+        });
+        println!(rt; "{}", Line(&line[..in_line::<R>()]))?;
     }
     Ok(())
 }
 
-fn print_ring<R: Ring>(rt: &HostRuntime, name: &str, ring: &R) -> io::Result<()> {
+fn print_ring<R: Ring>(rt: &impl Print, name: &str, ring: &R) -> io::Result<()> {
     println!(rt; "ring {name}")?;
     if R::WIDTH <= 4 {
         print_products(rt, ring)?;
@@ -84,7 +90,7 @@ fn print_ring<R: Ring>(rt: &HostRuntime, name: &str, ring: &R) -> io::Result<()>
     print_inverses(rt, ring)
 }
 
-fn print_octics(rt: &HostRuntime) -> io::Result<()> {
+fn print_octics(rt: &impl Print) -> io::Result<()> {
     for number in [0x11b, 0x1f5, 0x100, 0x1ff] {
         println!(rt; "ring {number:X}")?;
         print_inverses(rt, &Octic::new(number))?;

@@ -12,6 +12,7 @@ use rings::Ring;
 pub fn box_byte<B: Sbox, R: Ring>(ring: &R, pair: &Pair, x: u8) -> u8
     ensures { Boxed B.OCTIC B.before B.after (λ y. B.after (inverse_mod B.OCTIC (B.before y))) R.Ring.WIDTH (R.Ring.mul ring.now) pair.now x result }
 {
-    let trail = trail_of(ring, pair, B::before(x));
+    let mapped = B::before(x);
+    let trail = trail_of(ring, pair, mapped);
     B::after(trail.byte)
 }

@@ -25,17 +25,21 @@ fn print_pair(rt: &impl Print, name: &str, octic: u16, pair: &Pair) -> io::Resul
     )
 }
 
-fn print_fits<R: Ring>(rt: &HostRuntime, name: &str, ring: &R) -> io::Result<()> {
-    let mut refusals = Vec::new(rt.alloc());
+// Refusals are counted as they come, and not kept: the program needs no memory.
+fn print_fits<R: Ring>(rt: &impl Print, name: &str, ring: &R) -> io::Result<()> {
+    let kinds = [Refusal::NotField, Refusal::NotOctic, Refusal::Divisible];
+    let mut counts = [0usize; 3];
     for octic in 0..=u16::MAX {
         match fit(ring, octic) {
             Ok(pair) => print_pair(rt, name, octic, &pair)?,
-            Err(refusal) => refusals.push(refusal)?,
+            Err(refusal) => {
+                for (count, kind) in counts.iter_mut().zip(kinds) {
+                    *count = count.saturating_add(usize::from(refusal == kind));
+                }
+            }
         }
     }
-    let [first, second, third] = [Refusal::NotField, Refusal::NotOctic, Refusal::Divisible].map(
-        |kind| refusals.iter().filter(|refusal| **refusal == kind).count(),
-    );
+    let [first, second, third] = counts;
     println!(rt; "{name} refused: 1 {first}, 2 {second}, 3 {third}")
 }
 

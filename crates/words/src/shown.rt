@@ -42,7 +42,7 @@ impl fmt::Display for Shown<'_> {
 
     fn fmt<W: fmt::Write>(&self, f: &mut fmt::Formatter<W>) -> fmt::Result {
         for b in self.0 {
-            write!(f, "{}", ShownByte(*b))?;
+            fmt::Display::fmt(&ShownByte(*b), f)?;
         }
         Ok(())
     }

@@ -10,5 +10,5 @@ returns g c =
     let p = c.args.pair.now in
     let t = c.trail_of-trail.result in
     boxing g.B.Sbox.OCTIC g.B.Sbox.before g.B.Sbox.after w mul p c.args.x _ t g.met.B.Sbox.degree
-    (subst (λ (y : ℕ). Trails w mul p y t) c.before-2.ensures c.trail_of-trail.ensures.walks)
-    (subst (λ (y : ℕ). Through w mul p y t.byte) c.before-2.ensures c.trail_of-trail.ensures.through) c.after.ensures
+    (subst (λ (y : ℕ). Trails w mul p y t) c.before-mapped.ensures c.trail_of-trail.ensures.walks)
+    (subst (λ (y : ℕ). Through w mul p y t.byte) c.before-mapped.ensures c.trail_of-trail.ensures.through) c.after.ensures
